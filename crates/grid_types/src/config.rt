@@ -1,0 +1,61 @@
+ghost use Rattle.std.specs.Prelude.{◌↔◌, IsTrue};
+ghost use Rattle.grid_types.specs.Config.{IsValid};
+
+use crate::names::{NodeNo, ReqNo};
+
+/// What a hub is set up with. It is fixed for the hub's life, and [`HubConfig::is_valid`] says which values a hub takes.
+#[derive(Clone, Copy, Debug, PartialEq, Eq)]
+pub struct HubConfig {
+    /// Milliseconds from a request's queuing to its deadline: 1,000 to 86,400,000.
+    pub timeout_ms: u64,
+    /// Milliseconds without a touch after which a session is idle: 10,000 to 86,400,000.
+    pub idle_ms: u64,
+    /// Milliseconds without a beat after which a node has lapsed: 1,000 to 86,400,000.
+    pub lapse_ms: u64,
+    /// How many requests may wait or be held at once: 1 to 10,000.
+    pub queue_requests: u32,
+    /// Whether a request is refused that no slot of a registered node matches.
+    pub reject_unsupported: bool,
+    /// The number of the first registration, at least 1.
+    pub first_node: NodeNo,
+    /// The number of the first request, at least 1.
+    pub first_request: ReqNo,
+}
+
+impl HubConfig {
+    /// Whether every part is within its limits. What makes a hub asks for it.
+    pub fn is_valid(&self) -> bool
+        ensures { IsTrue result ↔ IsValid self.now }
+    {
+        self.timeout_ms >= 1_000
+            && self.timeout_ms <= 86_400_000
+            && self.idle_ms >= 10_000
+            && self.idle_ms <= 86_400_000
+            && self.lapse_ms >= 1_000
+            && self.lapse_ms <= 86_400_000
+            && self.queue_requests >= 1
+            && self.queue_requests <= 10_000
+            && self.first_node >= 1
+            && self.first_request >= 1
+    }
+}
+
+impl Default for HubConfig {
+    ghost use Rattle.std.specs.Prelude.{◌≡◌};
+    ghost use Rattle.grid_types.specs.Config.{default_config};
+
+    ghost is_default = { λ c. c ≡ default_config };
+
+    /// 300 s to a deadline and to idleness, 120 s to a lapse, 10,000 requests, no refusal of the unsupported, numbers from 1.
+    fn default() -> Self {
+        HubConfig {
+            timeout_ms: 300_000,
+            idle_ms: 300_000,
+            lapse_ms: 120_000,
+            queue_requests: 10_000,
+            reject_unsupported: false,
+            first_node: 1,
+            first_request: 1,
+        }
+    }
+}

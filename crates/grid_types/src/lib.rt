@@ -1,0 +1,27 @@
+//! The types that every crate of the grid speaks of, and (in `specs/`) what they mean: the history of a hub,
+//! what each fact about it is, which entries may follow, and what the hub of one thread answers.
+#![tactic(auto)]
+
+mod capabilities;
+mod config;
+mod entry;
+mod laws;
+mod names;
+mod text;
+mod view;
+mod worked;
+
+pub use capabilities::{Cap, CapValue, Caps, Choices, Groups, Registration, SlotGroup};
+pub use config::HubConfig;
+pub use entry::{Change, EndCause, Entry, FailWhy, Found, Outcome};
+pub use laws::{
+    calls_give_good_tokens, calls_stay_legal, chosen_is_first, legal_is_safe, live_is_running,
+    map_finds_live, numbered_one_by_one, one_more_entry, tokens_stay_good, tokens_tell_the_same,
+};
+pub use names::{Moment, NodeAddress, NodeNo, ReqNo, SessionId, SlotId, Words};
+pub use text::{Bytes, NoMemory, Text};
+pub use view::{NodeView, NodeViews, SlotState, SlotViews, Standing, View, WaitView, WaitViews};
+pub use worked::{full_grid, worked_histories};
+
+#[cfg(test)]
+mod tests;
