@@ -1,0 +1,5 @@
+pub mod Turns
+pub mod Keys
+pub mod Rows
+pub mod Steps
+pub mod Queries

@@ -1,0 +1,6 @@
+pub mod SessionNames
+pub mod Rows
+pub mod Ends
+pub mod Steps
+pub mod Idle
+pub mod Others

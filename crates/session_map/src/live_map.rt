@@ -1,0 +1,197 @@
+ghost use Rattle.std.specs.Prelude.{◌≡◌, ℕ, List, [], OnOk, OnErr, not, nat_eq, nat_lt, nat_le, option_map, unwrap_or, map, filter, ◌-◌, min};
+ghost use Rattle.std.specs.List.{reduce};
+ghost use Rattle.grid_types.specs.declared.entry.Change.TheVariants as change;
+ghost use Rattle.grid_types.specs.Lists.{least};
+ghost use Rattle.grid_types.specs.Nodes.{address_of};
+ghost use Rattle.grid_types.specs.Sessions.{live, found_of};
+ghost use Rattle.grid_types.specs.Tables.{Follows, FollowsGiven, Keeps, Tells};
+ghost use Rattle.session_map.specs.Table.{Stands, NotesUse, RemovesPlace, earliest_use, running, idle_bindings};
+
+use crate::session_key::SessionKey;
+use grid_types::{
+    Caps, EndCause, Found, Moment, NoMemory, NodeAddress, NodeNo, ReqNo, SessionId, SlotId,
+};
+use indexmap::IndexMap;
+use std::alloc::Global;
+use std::collections::BTreeMap;
+
+/// A live session, by its binding.
+#[derive(Clone, Copy)]
+pub struct LiveSession {
+    session: SessionId,
+    slot: SlotId,
+    active: Moment,
+}
+
+/// Where a session is found, by its id.
+#[derive(Clone, Copy)]
+pub struct Place {
+    slot: SlotId,
+    address: NodeAddress,
+    binding: ReqNo,
+}
+
+/// The least binding that has been idle for so many milliseconds.
+fn least_idle_of(sessions: &IndexMap<ReqNo, LiveSession>, at: Moment, idle_ms: u64) -> Option<ReqNo>
+    ensures { result ≡ reduce min (map (λ e. e.0) (filter (λ e. nat_le idle_ms (at.0 - e.1.active.0)) sessions.now.entries)) }
+{
+    sessions
+        .iter()
+        .filter(|(_, session)| at.0.saturating_sub(session.active.0) >= idle_ms)
+        .map(|(binding, _)| *binding)
+        .min()
+}
+
+/// The earliest of the moments at which the sessions were used last.
+fn earliest_use_of(sessions: &IndexMap<ReqNo, LiveSession>) -> Option<u64>
+    ensures { result ≡ reduce min (map (λ e. e.1.active.0) sessions.now.entries) }
+{
+    sessions.iter().map(|(_, session)| session.active.0).min()
+}
+
+/// The live sessions. A session is kept under its binding, which the hub numbers itself, and under its id, which
+/// comes from a node. No session was used last before `quiet_since`, so that as a rule no session need be looked at
+/// to tell that none is idle.
+#[derive(Drop)]
+pub struct LiveMap {
+    sessions: IndexMap<ReqNo, LiveSession>,
+    places: BTreeMap<SessionKey, Place>,
+    quiet_since: Moment,
+}
+
+impl LiveMap {
+    /// No session is live. It takes no memory.
+    pub fn new(alloc: Global) -> Self
+        ensures { Stands result [] }
+    {
+        LiveMap {
+            sessions: IndexMap::new(alloc),
+            places: BTreeMap::new(alloc),
+            quiet_since: Moment(0),
+        }
+    }
+
+    /// Where the session is live. It takes no memory.
+    pub fn find(&self, session: &SessionId) -> Found
+        ensures { Tells Stands self.now (λ H. result ≡ found_of (live H session.now)) }
+    {
+        match self.places.get(&SessionKey::of(*session)) {
+            Some(place) => Found::At {
+                slot: place.slot,
+                address: place.address,
+                binding: place.binding,
+            },
+            None => Found::NoSession,
+        }
+    }
+
+    /// A session was bound: it is live from now on. Without memory all stays as it is.
+    pub fn bound(
+        &mut self,
+        request: ReqNo,
+        slot: SlotId,
+        session: SessionId,
+        _caps: &Caps,
+        at: Moment,
+        address: NodeAddress,
+    ) -> Result<(), NoMemory>
+        ensures stands { OnOk result ((caller : ℕ) → FollowsGiven Stands (λ H. address ≡ address_of H slot.node) self.old self.new caller (change.Bound request slot session _caps.now at)) }
+        ensures refused { OnErr result (Keeps Stands self.old self.new) }
+    {
+        self.sessions.reserve(1)?;
+        let place = Place {
+            slot,
+            address,
+            binding: request,
+        };
+        if self.places.insert(SessionKey::of(session), place).is_err() {
+            return Err(NoMemory);
+        }
+        let live = LiveSession {
+            session,
+            slot,
+            active: at,
+        };
+        self.sessions.insert(request, live).unwrap();
+        self.note_use(at);
+        Ok(())
+    }
+
+    /// A session was used. It takes no memory.
+    pub fn touched(&mut self, binding: ReqNo, at: Moment)
+        ensures { (caller : ℕ) → Follows Stands self.old self.new caller (change.Touched binding at) }
+    {
+        if let Some(session) = self.sessions.get_mut(&binding) {
+            session.active = at;
+        }
+        self.note_use(at);
+    }
+
+    /// A session ended. It takes no memory.
+    pub fn ended(&mut self, binding: ReqNo, _cause: EndCause, _at: Moment)
+        ensures { (caller : ℕ) → Follows Stands self.old self.new caller (change.Ended binding _cause _at) }
+    {
+        if let Some(ended) = self.sessions.swap_remove(&binding) {
+            self.remove_place(ended.session);
+        }
+    }
+
+    /// A node lapsed, and with it the sessions that ran there. It takes no memory.
+    pub fn lapsed(&mut self, node: NodeNo, _at: Moment)
+        ensures { (caller : ℕ) → Follows Stands self.old self.new caller (change.Lapsed node _at) }
+    {
+        self.sessions.retain(
+            |_binding: &ReqNo, session: &mut LiveSession| -> bool
+                ensures { (result ≡ not (nat_eq session.old.slot.node node)) × (session.new ≡ session.old) }
+            { session.slot.node != node },
+        );
+        self.places.retain(
+            |_session: &SessionKey, place: &mut Place| -> bool
+                ensures { (result ≡ not (nat_eq place.old.slot.node node)) × (place.new ≡ place.old) }
+            { place.slot.node != node },
+        );
+    }
+
+    /// The session that is live under the binding. It takes no memory.
+    pub fn session_of(&self, binding: ReqNo) -> Option<SessionId>
+        ensures { Tells Stands self.now (λ H. result ≡ option_map (λ x. x.session) (running H binding)) }
+    {
+        Some(self.sessions.get(&binding)?.session)
+    }
+
+    /// The least binding that has been idle for so many milliseconds. It takes no memory. Where some session may be
+    /// idle, it looks at all of them.
+    pub fn least_idle(&self, at: Moment, idle_ms: u64) -> Option<ReqNo>
+        ensures { Tells Stands self.now (λ H. result ≡ least nat_lt (idle_bindings H idle_ms at.0)) }
+    {
+        if at.0.saturating_sub(self.quiet_since.0) < idle_ms {
+            return None;
+        }
+        least_idle_of(&self.sessions, at, idle_ms)
+    }
+
+    /// Notes when the session that was used least of late was used, so that `least_idle` looks at the sessions again
+    /// only once that one may be idle. It looks at all of them, and takes no memory.
+    pub fn note_quiet(&mut self)
+        ensures kept { Keeps Stands self.old self.new }
+        ensures noted { self.new.quiet_since.0 ≡ unwrap_or (earliest_use self.old) self.old.quiet_since.0 }
+    {
+        if let Some(earliest) = earliest_use_of(&self.sessions) {
+            self.quiet_since = Moment(earliest);
+        }
+    }
+
+    fn remove_place(&mut self, session: SessionId)
+        ensures { RemovesPlace self.old self.new session }
+    {
+        self.places.remove(&SessionKey::of(session));
+    }
+
+    fn note_use(&mut self, at: Moment)
+        ensures { NotesUse self.old self.new at }
+    {
+        if at < self.quiet_since {
+            self.quiet_since = at;
+        }
+    }
+}
