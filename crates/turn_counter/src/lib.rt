@@ -1,0 +1,14 @@
+//! A count that threads raise in turns: a small value over a `TurnCell`, which shows the form for a larger one.
+#![tactic(auto)]
+
+mod adding;
+mod counter;
+mod crew;
+mod linear;
+#[cfg(test)]
+mod tests;
+
+pub use adding::{add, adds, find_spent};
+pub use counter::Counter;
+pub use crew::many_add;
+pub use linear::{Linear, count_of_one_turn};
