@@ -1,0 +1,10 @@
+use Rattle.std.proofs.Common.{◌≡◌, take, length, ◌≤◌}
+use Rattle.std.specs.Prelude.{filter}
+use Rattle.grid_types.specs.History.{all_told, history_of}
+use Rattle.hub_twin.proofs.walk.count_listed.Given as goal
+
+abbrev pub invariant-loop-entry : goal.invariant-loop-entry
+invariant-loop-entry g l = record {
+  counted : l.count ≡ length (filter (g.L.Lists.passes l.list) (all_told (g.L.Lists.told l.list) (history_of (take l.entry-index l.journal))));
+  few : l.count ≤ l.entry-index;
+}

@@ -1,0 +1,4 @@
+pub mod Best
+pub mod Meaning
+pub mod Placed
+pub mod Sizes

@@ -1,0 +1,207 @@
+ghost use Rattle.std.specs.Prelude.{◌≡◌, ◌&&◌, is_some, option_copied, unwrap_or, [], find, List, ℕ, Option};
+ghost use Rattle.grid_types.specs.declared.capabilities.Registration.{Registration};
+ghost use Rattle.grid_types.specs.History.{history_of, nodes, node_told};
+ghost use Rattle.grid_types.specs.Nodes.{address_of, max_of, standing_of, is_up, is_draining, is_registered, beat_of, turned, registration_of};
+ghost use Rattle.grid_types.specs.Permitted.{is_named, has_name};
+
+use crate::walk::{Lists, Tells, first_listed, last_told};
+use grid_types::{Change, Entry, Moment, NodeAddress, NodeNo, Registration, Standing};
+
+#[derive(Clone, Copy)]
+struct StandingOf(NodeNo);
+
+impl Tells for StandingOf {
+    ghost use Rattle.grid_types.specs.Nodes.{standing_told};
+
+    type Told = Standing;
+
+    ghost told = { λ n _ e. standing_told n.0 e.change };
+
+    fn told(&self, _: &[Entry], entry: &Entry) -> Option<Standing> {
+        let (node, standing) = match &entry.change {
+            Change::Registered { node, .. } => (*node, Standing::Up),
+            Change::Draining { node, .. } => (*node, Standing::Draining),
+            Change::Removed { node, .. } => (*node, Standing::Gone),
+            Change::Lapsed { node, .. } => (*node, Standing::Down),
+            _ => return None,
+        };
+        if node == self.0 { Some(standing) } else { None }
+    }
+}
+
+/// A node's standing, by its last entry that tells one; none before its registration.
+pub fn standing_of(journal: &[Entry], node: NodeNo) -> Option<Standing>
+    ensures { result ≡ standing_of (history_of journal.now) node }
+{
+    last_told(journal, &StandingOf(node))
+}
+
+/// The node takes new sessions.
+pub fn is_up(journal: &[Entry], node: NodeNo) -> bool
+    ensures { result ≡ is_up (history_of journal.now) node }
+{
+    matches!(standing_of(journal, node), Some(Standing::Up))
+}
+
+/// The node keeps the sessions that it has and takes no new ones.
+pub fn is_draining(journal: &[Entry], node: NodeNo) -> bool
+    ensures { result ≡ is_draining (history_of journal.now) node }
+{
+    matches!(standing_of(journal, node), Some(Standing::Draining))
+}
+
+/// The node is up or draining.
+pub fn is_registered(journal: &[Entry], node: NodeNo) -> bool
+    ensures { result ≡ is_registered (history_of journal.now) node }
+{
+    matches!(
+        standing_of(journal, node),
+        Some(Standing::Up | Standing::Draining)
+    )
+}
+
+#[derive(Clone, Copy)]
+struct BeatOf(NodeNo);
+
+impl Tells for BeatOf {
+    ghost use Rattle.grid_types.specs.Nodes.{beat_told};
+
+    type Told = u64;
+
+    ghost told = { λ n _ e. beat_told n.0 e.change };
+
+    fn told(&self, _: &[Entry], entry: &Entry) -> Option<u64> {
+        match &entry.change {
+            Change::Registered { node, at, .. } | Change::Beaten { node, at } if *node == self.0 =>
+                { Some(at.0) }
+            _ => None,
+        }
+    }
+}
+
+/// The moment of a node's last beat or of its registration, 0 where there is none.
+pub fn beat_of(journal: &[Entry], node: NodeNo) -> Moment
+    ensures { result.0 ≡ beat_of (history_of journal.now) node }
+{
+    Moment(last_told(journal, &BeatOf(node)).unwrap_or(0))
+}
+
+/// What a node said of itself.
+pub fn registration_of(journal: &[Entry], node: NodeNo) -> Option<&Registration>
+    ensures { option_copied result ≡ registration_of (history_of journal.now) node }
+{
+    let mut found = None;
+    for entry in journal {
+        if let Change::Registered {
+            node: number,
+            registration,
+            ..
+        } = &entry.change
+        {
+            if *number == node {
+                found = Some(registration);
+            }
+        }
+    }
+    found
+}
+
+/// A node's address; none before its registration.
+pub fn address_of(journal: &[Entry], node: NodeNo) -> Option<NodeAddress>
+    ensures value { unwrap_or result [] ≡ address_of (history_of journal.now) node }
+    ensures variant { is_some result ≡ is_some (registration_of (history_of journal.now) node) }
+{
+    match registration_of(journal, node) {
+        Some(registration) => Some(registration.address),
+        None => None,
+    }
+}
+
+/// The most sessions that a node takes at once, 0 before its registration.
+pub fn max_of(journal: &[Entry], node: NodeNo) -> u16
+    ensures { result ≡ max_of (history_of journal.now) node }
+{
+    match registration_of(journal, node) {
+        Some(registration) => registration.max_sessions,
+        None => 0,
+    }
+}
+
+fn has_name(registration: Option<&Registration>, name: &str) -> bool
+    ensures { result ≡ has_name name.now (option_copied registration.entry) }
+{
+    match registration {
+        Some(registration) => registration.name.as_str() == name,
+        None => false,
+    }
+}
+
+/// The number of a node that registers.
+pub(crate) fn node_told(change: &Change) -> Option<NodeNo>
+    ensures { result ≡ node_told change.now }
+{
+    match change {
+        Change::Registered { node, .. } => Some(*node),
+        _ => None,
+    }
+}
+
+#[derive(Clone, Copy)]
+struct NodeNamed<'a> {
+    journal: &'a [Entry],
+    name: &'a str,
+}
+
+impl Lists for NodeNamed<'_> {
+    ghost use Rattle.grid_types.specs.History.{node_told, history_of};
+    ghost use Rattle.grid_types.specs.Permitted.{is_named};
+
+    type No = NodeNo;
+
+    ghost told = { λ _ c. node_told c };
+
+    ghost passes = { λ s n. is_named (history_of s.journal.now) s.name.now n };
+
+    fn told(&self, change: &Change) -> Option<NodeNo> {
+        node_told(change)
+    }
+
+    fn passes(&self, node: NodeNo) -> bool {
+        is_registered(self.journal, node)
+            && has_name(registration_of(self.journal, node), self.name)
+    }
+}
+
+/// The first registered node of this name.
+pub fn node_named(journal: &[Entry], name: &str) -> Option<NodeNo>
+    ensures { result ≡ find (is_named (history_of journal.now) name.now) (nodes (history_of journal.now)) }
+{
+    first_listed(journal, &NodeNamed { journal, name })
+}
+
+#[derive(Clone, Copy)]
+struct TurnedOf(NodeNo);
+
+impl Tells for TurnedOf {
+    ghost use Rattle.std.specs.Prelude.{length, ◌+◌};
+    ghost use Rattle.grid_types.specs.Lists.{when};
+    ghost use Rattle.grid_types.specs.Nodes.{turned_told};
+
+    type Told = usize;
+
+    ghost told = { λ n before e. when (turned_told n.0 e.change) (length before + 1) };
+
+    fn told(&self, before: &[Entry], entry: &Entry) -> Option<usize> {
+        match &entry.change {
+            Change::Reserved { slot, .. } if slot.node == self.0 => Some(before.len() + 1),
+            _ => None,
+        }
+    }
+}
+
+/// The place in the journal, from 1, of the last reservation on a node, 0 where there is none.
+pub fn turned(journal: &[Entry], node: NodeNo) -> usize
+    ensures { result ≡ turned (history_of journal.now) node }
+{
+    last_told(journal, &TurnedOf(node)).unwrap_or(0)
+}

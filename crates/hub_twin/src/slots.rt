@@ -1,0 +1,248 @@
+ghost use Rattle.std.specs.Prelude.{◌≡◌, ◌-◌, ◌^◌, min, length, option_map, is_some, filter, ◌↔◌, IsTrue};
+ghost use Rattle.grid_types.specs.History.{history_of, nodes};
+ghost use Rattle.grid_types.specs.Nodes.{stereotypes, stereotypes_of};
+ghost use Rattle.grid_types.specs.Bindings.{bound_slot};
+ghost use Rattle.grid_types.specs.Slots.{holder, holder_told, owner, is_free, load, has_slot_in_use, is_listed, listed};
+ghost use Rattle.hub_twin.specs.Meaning.{as_holder};
+ghost use Rattle.hub_twin.specs.Sizes.{HasSlotNumbers};
+
+use crate::nodes::{is_registered, node_told, registration_of};
+use crate::walk::{Lists, Tells, any_listed, count_listed, last_told};
+use grid_types::{Change, Entry, NodeNo, ReqNo, SessionId, SlotGroup, SlotId};
+
+/// What a slot is given to.
+#[derive(Clone, Copy, Debug, PartialEq, Eq)]
+pub enum SlotHolder {
+    Free,
+    /// Reserved for a request.
+    Held(ReqNo),
+    Busy(SessionId),
+    /// A session is being ended there.
+    Closing,
+}
+
+/// The slot that a binding's last `Bound` names.
+pub fn bound_slot(journal: &[Entry], binding: ReqNo) -> Option<SlotId>
+    ensures { result ≡ bound_slot (history_of journal.now) binding }
+{
+    let mut found = None;
+    for entry in journal {
+        if let Change::Bound { request, slot, .. } = &entry.change {
+            if *request == binding {
+                found = Some(*slot);
+            }
+        }
+    }
+    found
+}
+
+/// The holder that a change leaves, where it concerns the slot.
+fn holder_told(
+    before: &[Entry],
+    slot: SlotId,
+    held: &SlotHolder,
+    change: &Change,
+) -> Option<SlotHolder>
+    ensures { option_map as_holder result ≡ holder_told (history_of before.now) slot (as_holder held.now) change.now }
+{
+    let (concerns, next) = match change {
+        Change::Reserved {
+            request,
+            slot: of,
+            ..
+        } => (*of == slot, SlotHolder::Held(*request)),
+        Change::Bound {
+            session,
+            slot: of,
+            ..
+        } => (*of == slot, SlotHolder::Busy(*session)),
+        Change::Failed {
+            slot: of,
+            orphan: Some(_),
+            ..
+        } => (*of == slot, SlotHolder::Closing),
+        Change::Failed {
+            slot: of,
+            orphan: None,
+            ..
+        } => (*of == slot, SlotHolder::Free),
+        Change::Freed { slot: of } => (*of == slot, SlotHolder::Free),
+        Change::Ended { binding, .. } => (
+            bound_slot(before, *binding) == Some(slot),
+            SlotHolder::Closing,
+        ),
+        Change::Lapsed { node, .. } => (
+            *node == slot.node && matches!(held, SlotHolder::Busy(_)),
+            SlotHolder::Free,
+        ),
+        _ => return None,
+    };
+    if concerns { Some(next) } else { None }
+}
+
+/// A slot's holder, by the last entry that concerns it.
+pub fn holder(journal: &[Entry], slot: SlotId) -> SlotHolder
+    ensures { as_holder result ≡ holder (history_of journal.now) slot }
+{
+    let mut held = SlotHolder::Free;
+    for (i, entry) in journal.iter().enumerate() {
+        if let Some(next) = holder_told(&journal[..i], slot, &held, &entry.change) {
+            held = next;
+        }
+    }
+    held
+}
+
+#[derive(Clone, Copy)]
+struct OwnerOf(SlotId);
+
+impl Tells for OwnerOf {
+    ghost use Rattle.std.specs.Prelude.{is_some};
+    ghost use Rattle.grid_types.specs.Lists.{when};
+    ghost use Rattle.grid_types.specs.Slots.{holder, holder_told};
+
+    type Told = u64;
+
+    ghost told = { λ s before e. when (is_some (holder_told before s.0 (holder before s.0) e.change)) e.caller };
+
+    fn told(&self, before: &[Entry], entry: &Entry) -> Option<u64> {
+        match holder_told(before, self.0, &holder(before, self.0), &entry.change) {
+            Some(_) => Some(entry.caller),
+            None => None,
+        }
+    }
+}
+
+/// The caller of the last entry that concerns the slot.
+pub fn owner(journal: &[Entry], slot: SlotId) -> Option<u64>
+    ensures { result ≡ owner (history_of journal.now) slot }
+{
+    last_told(journal, &OwnerOf(slot))
+}
+
+/// The slot has no holder.
+pub fn is_free(journal: &[Entry], slot: SlotId) -> bool
+    ensures { result ≡ is_free (holder (history_of journal.now) slot) }
+{
+    matches!(holder(journal, slot), SlotHolder::Free)
+}
+
+/// How many slots the groups have, or the type's end where they have more.
+fn group_slots(groups: &[SlotGroup]) -> u32
+    ensures { result ≡ min (length (stereotypes groups.now)) (2 ^ 32 - 1) }
+{
+    let mut count: u32 = 0;
+    for group in groups {
+        count = count.saturating_add(u32::from(group.count));
+    }
+    count
+}
+
+/// How many slots a node has, or the type's end where it has more.
+pub fn slot_count(journal: &[Entry], node: NodeNo) -> u32
+    ensures { result ≡ min (length (stereotypes_of (history_of journal.now) node)) (2 ^ 32 - 1) }
+{
+    match registration_of(journal, node) {
+        Some(registration) => group_slots(registration.groups.items()),
+        None => 0,
+    }
+}
+
+#[derive(Clone, Copy)]
+struct OversizedNodes<'a>(&'a [Entry]);
+
+impl Lists for OversizedNodes<'_> {
+    ghost use Rattle.std.specs.Prelude.{length, nat_lt};
+    ghost use Rattle.grid_types.specs.History.{node_told, history_of};
+    ghost use Rattle.grid_types.specs.Nodes.{stereotypes_of};
+
+    type No = NodeNo;
+
+    ghost told = { λ _ c. node_told c };
+
+    ghost passes = { λ s n. nat_lt 65_536 (length (stereotypes_of (history_of s.0.now) n)) };
+
+    fn told(&self, change: &Change) -> Option<NodeNo> {
+        node_told(change)
+    }
+
+    fn passes(&self, node: NodeNo) -> bool {
+        slot_count(self.0, node) > 65_536
+    }
+}
+
+/// Every slot of every node can be named.
+pub fn has_slot_numbers(journal: &[Entry]) -> bool
+    ensures { IsTrue result ↔ HasSlotNumbers (history_of journal.now) }
+{
+    !any_listed(journal, &OversizedNodes(journal))
+}
+
+/// How many slots of a node are not free.
+pub fn load(journal: &[Entry], node: NodeNo) -> u32
+    requires sized { HasSlotNumbers (history_of journal.now) }
+    ensures { result ≡ load (history_of journal.now) node }
+{
+    let mut load = 0;
+    for index in 0..slot_count(journal, node) {
+        if !is_free(
+            journal,
+            SlotId {
+                node,
+                index: index as u16,
+            },
+        ) {
+            load += 1;
+        }
+    }
+    load
+}
+
+/// A slot of the node is not free.
+pub fn has_slot_in_use(journal: &[Entry], node: NodeNo) -> bool
+    requires sized { HasSlotNumbers (history_of journal.now) }
+    ensures { result ≡ has_slot_in_use (history_of journal.now) node }
+{
+    load(journal, node) > 0
+}
+
+/// The node is registered, or has a slot that is not free.
+pub fn is_listed(journal: &[Entry], node: NodeNo) -> bool
+    requires sized { HasSlotNumbers (history_of journal.now) }
+    ensures { result ≡ is_listed (history_of journal.now) node }
+{
+    is_registered(journal, node) || has_slot_in_use(journal, node)
+}
+
+#[derive(Clone, Copy)]
+pub(crate) struct ListedNodes<'a> {
+    pub(crate) journal: &'a [Entry],
+    pub ghost sized: { HasSlotNumbers (history_of journal.now) },
+}
+
+impl Lists for ListedNodes<'_> {
+    ghost use Rattle.grid_types.specs.History.{node_told, history_of};
+    ghost use Rattle.grid_types.specs.Slots.{is_listed};
+
+    type No = NodeNo;
+
+    ghost told = { λ _ c. node_told c };
+
+    ghost passes = { λ s n. is_listed (history_of s.journal.now) n };
+
+    fn told(&self, change: &Change) -> Option<NodeNo> {
+        node_told(change)
+    }
+
+    fn passes(&self, node: NodeNo) -> bool {
+        is_listed(self.journal, node)
+    }
+}
+
+/// How many nodes are listed.
+pub fn listed_count(journal: &[Entry]) -> usize
+    requires sized { HasSlotNumbers (history_of journal.now) }
+    ensures { result ≡ length (listed (history_of journal.now)) }
+{
+    count_listed(journal, &ListedNodes { journal })
+}

@@ -1,0 +1,88 @@
+ghost use Rattle.std.specs.Prelude.{◌≡◌, ◌-◌, ◌^◌, min, length};
+ghost use Rattle.std.specs.List.{list_any};
+ghost use Rattle.grid_types.specs.History.{history_of, nodes};
+ghost use Rattle.grid_types.specs.Slots.{holder, is_free, slots_of};
+ghost use Rattle.grid_types.specs.Requests.{bytes_of};
+ghost use Rattle.grid_types.specs.Overview.{is_ready, state_of, wait_view};
+ghost use Rattle.hub_twin.specs.Sizes.{HasSlotNumbers};
+
+use crate::bytes::request_bytes;
+use crate::nodes::{is_up, max_of, node_told};
+use crate::requests::{choice_count, choices_of, deadline_of};
+use crate::slots::{SlotHolder, holder, load, slot_count};
+use crate::walk::{Lists, any_listed};
+use grid_types::{Change, Entry, NodeNo, ReqNo, SlotId, SlotState, WaitView};
+
+fn has_free_slot(journal: &[Entry], node: NodeNo) -> bool
+    requires sized { HasSlotNumbers (history_of journal.now) }
+    ensures { result ≡ list_any (λ s. is_free (holder (history_of journal.now) s)) (slots_of (history_of journal.now) node) }
+{
+    load(journal, node) < slot_count(journal, node)
+}
+
+/// An up node below its greatest number of sessions has a free slot.
+pub fn is_ready(journal: &[Entry], node: NodeNo) -> bool
+    requires sized { HasSlotNumbers (history_of journal.now) }
+    ensures { result ≡ is_ready (history_of journal.now) node }
+{
+    is_up(journal, node)
+        && load(journal, node) < u32::from(max_of(journal, node))
+        && has_free_slot(journal, node)
+}
+
+#[derive(Clone, Copy)]
+struct ReadyNodes<'a> {
+    journal: &'a [Entry],
+    ghost sized: { HasSlotNumbers (history_of journal.now) },
+}
+
+impl Lists for ReadyNodes<'_> {
+    ghost use Rattle.grid_types.specs.History.{node_told, history_of};
+    ghost use Rattle.grid_types.specs.Overview.{is_ready};
+
+    type No = NodeNo;
+
+    ghost told = { λ _ c. node_told c };
+
+    ghost passes = { λ s n. is_ready (history_of s.journal.now) n };
+
+    fn told(&self, change: &Change) -> Option<NodeNo> {
+        node_told(change)
+    }
+
+    fn passes(&self, node: NodeNo) -> bool {
+        is_ready(self.journal, node)
+    }
+}
+
+/// Some node is ready for a session.
+pub fn has_ready_node(journal: &[Entry]) -> bool
+    requires sized { HasSlotNumbers (history_of journal.now) }
+    ensures { result ≡ list_any (is_ready (history_of journal.now)) (nodes (history_of journal.now)) }
+{
+    any_listed(journal, &ReadyNodes { journal })
+}
+
+/// A slot's state, which does not show for whom it is held.
+pub fn slot_state(journal: &[Entry], slot: SlotId) -> SlotState
+    ensures { result ≡ state_of (holder (history_of journal.now) slot) }
+{
+    match holder(journal, slot) {
+        SlotHolder::Free => SlotState::Free,
+        SlotHolder::Held(_) => SlotState::Held,
+        SlotHolder::Busy(session) => SlotState::Busy(session),
+        SlotHolder::Closing => SlotState::Closing,
+    }
+}
+
+/// A waiting request as a view shows it; its bytes end at the type's end.
+pub fn wait_view(journal: &[Entry], request: ReqNo) -> WaitView
+    ensures { result ≡ record (wait_view (history_of journal.now) request) { bytes = min (bytes_of (history_of journal.now) request) (2 ^ 64 - 1) } }
+{
+    WaitView {
+        request,
+        deadline: deadline_of(journal, request),
+        choices: choice_count(journal, request),
+        bytes: request_bytes(choices_of(journal, request)),
+    }
+}
