@@ -1,0 +1,11 @@
+pub mod QuietLemmas
+pub mod ServesLemmas
+pub mod MovedLemmas
+pub mod PlacesLemmas
+pub mod KeptLemmas
+pub mod RegisterLemmas
+pub mod WaitingLemmas
+pub mod EnqueueLemmas
+pub mod CreatedLemmas
+pub mod PollLemmas
+pub mod BindLemmas
