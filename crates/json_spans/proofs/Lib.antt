@@ -1,0 +1,11 @@
+pub mod Running
+pub mod Forward
+pub mod Backward
+pub mod Texts
+pub mod Lists
+pub mod Objects
+pub mod Completing
+pub mod Course
+pub mod Refusals
+pub mod Characters
+pub mod Tightness

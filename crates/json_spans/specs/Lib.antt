@@ -1,0 +1,13 @@
+pub mod Bytes
+pub mod Grammar
+pub mod Table
+pub mod Machine
+pub mod Parts
+pub mod Span
+pub mod Cut
+pub mod Squeeze
+pub mod Characters
+pub mod Tight
+pub mod Inside
+pub mod Names
+pub mod Faults
