@@ -1,0 +1,14 @@
+pub mod Heads
+pub mod HeadSteps
+pub mod Chunks
+pub mod ChunkSteps
+pub mod Fields
+pub mod FieldSteps
+pub mod NumberSteps
+pub mod Frames
+pub mod FrameSteps
+pub mod Plain
+pub mod Writing
+pub mod Written
+pub mod Replies
+pub mod ReplySteps
