@@ -1,0 +1,3 @@
+pub mod Joined
+pub mod Status
+pub mod Queue

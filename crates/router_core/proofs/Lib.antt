@@ -1,0 +1,5 @@
+pub mod Texts
+pub mod Inserts
+pub mod Seeking
+pub mod Parts
+pub mod SamePlace

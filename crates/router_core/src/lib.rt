@@ -1,0 +1,13 @@
+//! The routes of the hub: what a request's method and target ask for.
+#![tactic(auto)]
+
+mod place;
+mod routed;
+mod table;
+mod target;
+
+pub use routed::{RouteFault, Routed};
+pub use table::route;
+
+#[cfg(test)]
+mod tests;

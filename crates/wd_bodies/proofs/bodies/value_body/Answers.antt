@@ -1,0 +1,8 @@
+use Rattle.std.proofs.Common.{arith}
+use Rattle.std.proofs.lemmas.Grind.{common_steps}
+use Rattle.wd_bodies.specs.Bodies.{value_bytes}
+use Rattle.wd_bodies.proofs.bodies.value_body.Goals as goal
+
+pub returns : goal.returns
+unfolding value_bytes
+returns c = grind (arith, common_steps)
