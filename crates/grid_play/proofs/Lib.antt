@@ -1,0 +1,13 @@
+pub mod StreamLemmas
+pub mod NameLemmas
+pub mod ResponseLemmas
+pub mod SessionLemmas
+pub mod PollLemmas
+pub mod StepLemmas
+pub mod RoundLemmas
+pub mod WaitLemmas
+pub mod StartLemmas
+pub mod ReadyLemmas
+pub mod OutcomeLemmas
+pub mod NewLemmas
+pub mod ServedLemmas

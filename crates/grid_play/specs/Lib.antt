@@ -1,0 +1,13 @@
+pub mod PlayWords
+pub mod Merging
+pub mod Exchange
+pub mod LoopNode
+pub mod Steps
+pub mod Responses
+pub mod Script
+pub mod Conversation
+pub mod Runs
+pub mod Played
+pub mod Streams
+pub mod Grid
+pub mod Served

@@ -1,0 +1,15 @@
+//! The grid in one thread: one connection over an input and an output, with nodes in memory.
+#![tactic(auto)]
+
+mod grid;
+mod loop_node;
+mod merging;
+mod responses;
+mod streams;
+mod top;
+mod words;
+
+pub use top::run;
+
+#[cfg(test)]
+mod tests;
