@@ -1,3 +1,8 @@
 pub mod Quoted
 pub mod Joined
+pub mod Punctuation
+pub mod Parsed
+pub mod Strings
+pub mod Lexing
+pub mod WrittenMembers
 pub mod ReadAgainLemmas

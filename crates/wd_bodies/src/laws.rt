@@ -1,12 +1,27 @@
-ghost use Rattle.std.specs.Prelude.{◌≡◌, ◌≤◌, Some};
-ghost use Rattle.json.specs.Json.{Json, document};
-ghost use Rattle.json.specs.Print.{print};
-ghost use Rattle.json.specs.Tree.{json_tokens, HasNumbers, depth};
-ghost use Rattle.wd_bodies.specs.Bodies.{value_bytes};
-ghost use Rattle.wd_bodies.specs.ReadAgain.{value_json};
+//! The laws that bodies are read again as JSON (RFC 8259), each as the contract of a function that does nothing.
+ghost use Rattle.wd_bodies.specs.ReadAgain.{CapabilitiesAreReadAgain, CreatedAreReadAgain, ErrorsAreReadAgain, StartsAreReadAgain, ValuesAreReadAgain};
 
-/// A body around JSON that was written without white space is JSON with that value (RFC 8259).
+/// A body around a JSON text is JSON with that text's value.
 pub fn values_are_read_again()
-    ensures { (j : Json) → HasNumbers j → depth j ≤ 127
-        → document (value_bytes (print (json_tokens j))) ≡ Some (value_json j) }
+    ensures { ValuesAreReadAgain }
+{}
+
+/// An error's body is JSON with its code and its message.
+pub fn errors_are_read_again()
+    ensures { ErrorsAreReadAgain }
+{}
+
+/// Written capabilities are JSON with their members in order, where each raw value is JSON.
+pub fn capabilities_are_read_again()
+    ensures { CapabilitiesAreReadAgain }
+{}
+
+/// The body for a session that was created is JSON with its id and its capabilities.
+pub fn created_are_read_again()
+    ensures { CreatedAreReadAgain }
+{}
+
+/// The body of a request for a session is JSON with the capabilities that are wanted.
+pub fn starts_are_read_again()
+    ensures { StartsAreReadAgain }
 {}

@@ -65,6 +65,79 @@ fn messages_are_escaped(rt: HostRuntime) -> Result<(), Fail> {
     Ok(())
 }
 
+const OF_ARGUMENTS: &[&str] = &[
+    "bad request: head too long",
+    "body is not UTF-8",
+    "body is not JSON at byte 7",
+    "body is nested too deep at byte 127",
+    "body has a name twice at byte 9",
+    "body has too many members at byte 0",
+    "capabilities is not an object",
+    "firstMatch is not a list with an entry",
+    "alwaysMatch: platform is refused",
+    "firstMatch 0: a:b stands in alwaysMatch too",
+    "firstMatch has 65 entries",
+    "capabilities take 8388609 bytes",
+    "firstMatch 1 is not an object",
+    "registration: maxSessions is refused",
+    "registration takes 16385 bytes",
+    "name is taken by node 1",
+    "no registered node has this number",
+];
+
+const OF_STARTS: &[&str] = &[
+    "no registered slot matches",
+    "queue is full: 9 requests, 216 bytes",
+    "request 2 timed out",
+    "request 2 was cleared",
+    "start failed: node is gone",
+];
+
+const OF_THE_HUB: &[&str] = &[
+    "1024 nodes are listed",
+    "numbers are spent",
+    "node is unreachable",
+    "node's reply is not HTTP",
+    "hub is spent",
+];
+
+// The hub's messages, one of each form, with the codes' names of WebDriver §6.6.
+#[test]
+fn errors_are_written(rt: HostRuntime) -> Result<(), Fail> {
+    let alloc = rt.alloc();
+    let no_command: &[&str] = &["no command has this path"];
+    for (code, name, messages) in [
+        (ErrorCode::InvalidArgument, "invalid argument", OF_ARGUMENTS),
+        (
+            ErrorCode::InvalidSessionId,
+            "invalid session id",
+            &["no such session"],
+        ),
+        (ErrorCode::UnknownCommand, "unknown command", no_command),
+        (
+            ErrorCode::UnknownMethod,
+            "unknown method",
+            &["this path has no such method"],
+        ),
+        (
+            ErrorCode::SessionNotCreated,
+            "session not created",
+            OF_STARTS,
+        ),
+        (ErrorCode::UnknownError, "unknown error", OF_THE_HUB),
+    ] {
+        for message in messages {
+            let body = error_body(alloc, code, message).ok().ok_or("no memory")?;
+            let front = format!(in alloc; "{{\"value\":{{\"error\":\"{name}\"")?;
+            let want = format!(in alloc;
+                "{front},\"message\":\"{message}\",\"stacktrace\":\"\"}}}}"
+            )?;
+            assert_eq!(rt; body.as_bytes(), want.as_bytes());
+        }
+    }
+    Ok(())
+}
+
 // A number keeps its text, and lists keep theirs.
 #[test]
 fn starts_are_written(rt: HostRuntime) -> Result<(), Fail> {

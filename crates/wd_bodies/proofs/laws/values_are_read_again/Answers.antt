@@ -1,5 +1,5 @@
-use Rattle.wd_bodies.proofs.ReadAgainLemmas.{value-read}
+use Rattle.wd_bodies.proofs.ReadAgainLemmas.{value-read-again}
 use Rattle.wd_bodies.proofs.laws.values_are_read_again.Goals as goal
 
 pub returns : goal.returns
-returns c = λ j numbers levels. value-read j numbers levels
+returns c = λ text j e within. value-read-again text j e within
