@@ -1,18 +1,17 @@
 -- What is read is spelled by the grammar.
-use Rattle.std.proofs.Common.{◌≡◌, ◌≢◌, ◌⊎◌, ℕ, zero, suc, max, ◌+◌, ◌-◌, ◌*◌, ◌<◌, ◌≤◌, Bool, true, false, cond, ◌&&◌, ◌||◌, ◌==◌, nat_lt, List, [], ◌∷◌, ◌++◌, length, refl, ap, ◌∙◌, sym, arith, rules, inl, inr, IsTrue, length-append}
+use Rattle.std.proofs.Common.{◌≡◌, ◌≢◌, ℕ, zero, suc, ◌+◌, ◌-◌, ◌*◌, ◌<◌, ◌≤◌, Bool, true, false, cond, ◌||◌, ◌==◌, nat_lt, List, [], ◌∷◌, ◌++◌, length, refl, ap, ◌∙◌, sym, arith, rules, inl, inr, IsTrue, length-append}
 use Rattle.std.proofs.lemmas.List.{append_assoc}
 use Rattle.std.proofs.lemmas.Bool.Decides.{nat_tests}
-use Rattle.std.proofs.lemmas.Bool.{ne_eqb, lt-ltb, le-ltb, eqb-true}
+use Rattle.std.proofs.lemmas.Bool.{eqb-true}
 use Rattle.json_spans.specs.Bytes.{is_space, is_digit, is_hex, is_high, is_low, is_short, is_exponent}
-use Rattle.json_spans.specs.Grammar
-use Rattle.json_spans.specs.Grammar.{Char, plain, short, unit, pair, char, chars, quoted, IsChar, AreChars, AreSpaces, is_d, is_surrogate, AreDigits, AreSomeDigits, IsMinus, IsWhole, IsFraction, IsSigned, IsExponent, IsNumber, IsWord, Tree, word, number, text, empty_list, list, empty_object, object, Items, one, more, Members, one_member, more_members, spelling, items, members, IsTree, AreItems, AreMembers, depth, items_depth, members_depth}
+use Rattle.json_spans.specs.Grammar.{Char, plain, short, unit, pair, char, chars, quoted, IsChar, AreChars, AreSpaces, is_d, is_surrogate, AreDigits, IsMinus, IsWhole, IsFraction, IsSigned, IsExponent, IsNumber, IsWord, Tree, word, number, text, empty_list, list, empty_object, object, Items, one, more, Members, one_member, more_members, spelling, items, members, IsTree, AreItems, AreMembers, depth, items_depth, members_depth}
 use Rattle.json_spans.specs.Table.{step, after, begins, go_if, back, is_number_end}
-use Rattle.json_spans.specs.Machine.{Outcome, ended, stopped, too_deep, Stack, Onward, top_of, first_of, finish, react, run, at_end}
+use Rattle.json_spans.specs.Machine.{Outcome, ended, too_deep, Stack, top_of, finish, react, run, at_end}
 use Rattle.json_spans.specs.declared.table.Mode.{Mode}
 use Rattle.json_spans.specs.declared.table.Mode.TheVariants as mode
 use Rattle.json_spans.specs.declared.table.Action.{Action}
 use Rattle.json_spans.specs.declared.table.Action.TheVariants as does
-use Rattle.json_spans.proofs.Forward.{on, byte, spaces, holds, digits, over_end, over_at, stays_value, stays_after, BeginsValue, value_begins, first_begins, BeginsName, name_begins, first_name_begins, stays_colon, Finished}
+use Rattle.json_spans.proofs.Forward.{on, byte, spaces, digits, over_end, over_at, stays_value, stays_after, value_begins, first_begins, name_begins, first_name_begins, stays_colon}
 
 pub holding : {b : Bool} → b ≡ true → IsTrue b
 holding h = search rules

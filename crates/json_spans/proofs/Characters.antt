@@ -1,22 +1,21 @@
 -- serde_json reads a string as its characters.
-use Rattle.std.proofs.Common.{◌≡◌, ◌≢◌, ◌⊎◌, ℕ, suc, ◌+◌, ◌-◌, ◌*◌, ◌<◌, ◌≤◌, Bool, true, false, cond, ◌&&◌, ◌||◌, ◌==◌, nat_lt, nat_le, List, [], ◌∷◌, ◌++◌, length, refl, ap, ◌∙◌, sym, arith, subst, inl, inr, Option, Some, None, option_and_then}
+use Rattle.std.proofs.Common.{◌≡◌, ◌≢◌, ◌⊎◌, ℕ, ◌+◌, ◌-◌, ◌*◌, ◌<◌, ◌≤◌, Bool, true, false, ◌&&◌, ◌||◌, ◌==◌, nat_lt, nat_le, List, [], ◌∷◌, ◌++◌, refl, ap, ◌∙◌, sym, arith, subst, inl, inr, Option, Some, option_and_then}
 use Rattle.std.proofs.lemmas.List.{append_assoc}
 use Rattle.std.proofs.lemmas.Bool.Decides.{nat_tests}
 use Rattle.std.proofs.lemmas.Bool.{ne_eqb, lt-ltb, le-ltb, eqb-true}
-use Rattle.std.specs.Char as std_char
-use Rattle.std.specs.Char.{digit_value, encode_utf8}
-use Rattle.json.specs.Text.{Within, plain, after_backslash, after_u, after_high, content, code_unit, short_escape, is_high_surrogate, is_low_surrogate, prepend}
+use Rattle.std.specs.Char.{digit_value}
+use Rattle.json.specs.Text.{plain, content, code_unit, short_escape, is_high_surrogate, is_low_surrogate}
 use Rattle.json.specs.Word as json_word
-use Rattle.json.specs.Token.{Token, string, bad}
-use Rattle.json.specs.Lex.{Lexeme, token, Class, class, lex_byte, lex, Mode, between, in_string, in_escape, string_token, punctuate, Place, fresh, after_value, tokens}
+use Rattle.json.specs.Token.{Token, string}
+use Rattle.json.specs.Lex.{lex, in_string, punctuate, tokens}
 use Rattle.json.specs.Json as json
 use Rattle.json.proofs.Grammar.{value_is}
 use Rattle.serde_json.specs.Read.{read, of_json}
 use Rattle.serde_json.specs.Data as data_of
-use Rattle.json_spans.specs.Bytes.{is_digit, is_hex, is_high, is_low, is_short}
+use Rattle.json_spans.specs.Bytes.{is_hex, is_high, is_low, is_short}
 use Rattle.json_spans.specs.Grammar as grammar
 use Rattle.json_spans.specs.Grammar.{Char, char, chars, quoted, IsChar, AreChars, is_d, is_surrogate}
-use Rattle.json_spans.specs.Characters.{escaped, code, pair_code, meaning_of, meaning, IsMeaning}
+use Rattle.json_spans.specs.Characters.{escaped, code, meaning_of, meaning, IsMeaning}
 use Rattle.json_spans.specs.Parts.{Part}
 use Rattle.json_spans.proofs.Forward.{holds}
 

@@ -1,10 +1,10 @@
 -- What was read can go on, and a text of which a value was read has that value.
-use Rattle.std.proofs.Common.{◌≡◌, ℕ, ◌+◌, ◌-◌, ◌≤◌, Bool, true, false, List, [], ◌∷◌, ◌++◌, length, length-append, take, drop, refl, ap, ◌∙◌, sym, arith}
+use Rattle.std.proofs.Common.{◌≡◌, ℕ, ◌-◌, ◌≤◌, Bool, true, false, List, [], ◌∷◌, ◌++◌, length, length-append, take, drop, refl, ap, ◌∙◌, sym, arith}
 use Rattle.std.proofs.lemmas.List.{append_assoc}
 use Rattle.json_spans.specs.Bytes.{is_space}
 use Rattle.json_spans.specs.Grammar.{Tree, AreSpaces, IsTree, spelling, depth, IsJson}
 use Rattle.json_spans.specs.Faults.{Begins}
-use Rattle.json_spans.specs.Machine.{Outcome, ended, stopped, Stack, finish, run}
+use Rattle.json_spans.specs.Machine.{ended, Stack, finish, run}
 use Rattle.json_spans.specs.declared.table.Mode.{Mode}
 use Rattle.json_spans.specs.declared.table.Mode.TheVariants as mode
 use Rattle.json_spans.specs.declared.table.Action.TheVariants as does

@@ -1,12 +1,12 @@
 -- The course of reading: where each front of a text leads, and what stood before.
-use Rattle.std.proofs.Common.{◌≡◌, ◌⊎◌, ℕ, suc, ◌+◌, ◌-◌, ◌<◌, ◌≤◌, Bool, true, false, cond, ◌||◌, ◌==◌, nat_lt, List, [], ◌∷◌, ◌++◌, length, refl, ap, ◌∙◌, sym, arith, subst, inl, inr}
+use Rattle.std.proofs.Common.{◌≡◌, ◌⊎◌, ℕ, suc, ◌-◌, ◌<◌, ◌≤◌, Bool, true, false, cond, ◌||◌, ◌==◌, nat_lt, List, [], ◌∷◌, ◌++◌, length, refl, ap, ◌∙◌, sym, arith, subst, inl, inr}
 use Rattle.std.proofs.lemmas.List.{append_assoc}
 use Rattle.std.proofs.lemmas.Bool.Decides.{nat_tests}
 use Rattle.std.proofs.lemmas.Bool.{lt-ltb, eqb-true}
 use Rattle.json_spans.specs.Bytes.{is_space, is_digit, is_hex, is_high, is_low, is_short, is_exponent}
 use Rattle.json_spans.specs.Grammar.{is_d}
 use Rattle.json_spans.specs.Table.{step, begins, after, go_if}
-use Rattle.json_spans.specs.Machine.{Outcome, ended, stopped, too_deep, Stack, top_of, first_of, finish, close, react, run}
+use Rattle.json_spans.specs.Machine.{Outcome, ended, stopped, Stack, top_of, first_of, finish, react, run}
 use Rattle.json_spans.specs.declared.table.Mode.{Mode}
 use Rattle.json_spans.specs.declared.table.Mode.TheVariants as mode
 use Rattle.json_spans.specs.declared.table.Top.{Top}

@@ -1,13 +1,12 @@
 -- What is spelled by the grammar is read.
-use Rattle.std.proofs.Common.{◌≡◌, ◌≢◌, ◌⊎◌, ℕ, zero, suc, max, ◌+◌, ◌-◌, ◌<◌, ◌≤◌, Bool, true, false, cond, ◌&&◌, ◌||◌, ◌==◌, nat_lt, List, [], ◌∷◌, ◌++◌, length, refl, ap, ◌∙◌, sym, arith, rules, inl, inr, IsTrue}
+use Rattle.std.proofs.Common.{◌≡◌, ◌≢◌, ℕ, suc, ◌+◌, ◌-◌, ◌<◌, ◌≤◌, Bool, true, false, ◌&&◌, ◌||◌, ◌==◌, List, [], ◌∷◌, ◌++◌, length, refl, ap, ◌∙◌, sym, arith, rules, inl, inr, IsTrue}
 use Rattle.std.proofs.lemmas.List.{append_assoc}
 use Rattle.std.proofs.lemmas.Bool.Decides.{nat_tests}
 use Rattle.std.proofs.lemmas.Bool.{ne_eqb, lt-ltb, le-ltb}
 use Rattle.json_spans.specs.Bytes.{is_space, is_digit, is_hex, is_high, is_low, is_short, is_exponent}
-use Rattle.json_spans.specs.Grammar
-use Rattle.json_spans.specs.Grammar.{Char, plain, short, unit, pair, char, chars, quoted, IsChar, AreChars, AreSpaces, is_d, is_surrogate, AreDigits, AreSomeDigits, IsMinus, IsWhole, IsFraction, IsSigned, IsExponent, IsNumber, IsWord, Tree, word, number, text, empty_list, list, empty_object, object, Items, one, more, Members, one_member, more_members, spelling, items, members, IsTree, AreItems, AreMembers, depth, items_depth, members_depth}
+use Rattle.json_spans.specs.Grammar.{Char, plain, short, unit, pair, char, chars, quoted, IsChar, AreChars, AreSpaces, is_d, is_surrogate, AreDigits, IsMinus, IsWhole, IsFraction, IsSigned, IsExponent, IsNumber, IsWord, Tree, word, number, text, empty_list, list, empty_object, object, Items, one, more, Members, one_member, more_members, spelling, items, members, IsTree, AreItems, AreMembers, depth, items_depth, members_depth}
 use Rattle.json_spans.specs.Table.{step, after, begins, back, is_number_end}
-use Rattle.json_spans.specs.Machine.{Outcome, ended, Stack, Onward, top_of, first_of, finish, react, run}
+use Rattle.json_spans.specs.Machine.{ended, Stack, Onward, top_of, first_of, finish, react, run}
 use Rattle.json_spans.specs.declared.table.Mode.{Mode}
 use Rattle.json_spans.specs.declared.table.Mode.TheVariants as mode
 use Rattle.json_spans.specs.declared.table.Action.{Action}

@@ -9,3 +9,8 @@ pub mod Course
 pub mod Refusals
 pub mod Characters
 pub mod Tightness
+pub mod Utf8
+pub mod Reading
+pub mod OneTree
+pub mod Counting
+pub mod OneFault

@@ -1,15 +1,13 @@
 -- How the elements of a list are gone through.
-use Rattle.std.proofs.Common.{◌≡◌, ◌≢◌, ◌⊎◌, ℕ, zero, suc, ◌+◌, ◌-◌, ◌<◌, ◌≤◌, Bool, true, false, cond, ◌==◌, List, [], ◌∷◌, ◌++◌, length, get_or, drop, take, map, refl, ap, ◌∙◌, sym, arith, rules, inl, inr, length-append, length-drop, get_or-drop, Result, Ok, Err}
+use Rattle.std.proofs.Common.{◌≡◌, ◌⊎◌, ℕ, suc, ◌+◌, ◌-◌, ◌<◌, ◌≤◌, Bool, true, false, cond, ◌==◌, List, [], ◌∷◌, ◌++◌, length, get_or, drop, take, refl, ap, ◌∙◌, sym, arith, inl, inr, length-append, length-drop, get_or-drop, Ok, Err}
 use Rattle.std.proofs.lemmas.List.{append_assoc, drop-drop}
-use Rattle.std.proofs.lemmas.Bool.Decides.{nat_tests}
 use Rattle.std.proofs.lemmas.Bool.{eqb-true}
-use Rattle.json_spans.specs.Bytes.{is_space, is_digit}
+use Rattle.json_spans.specs.Bytes.{is_digit}
 use Rattle.json_spans.specs.Grammar.{Tree, word, number, text, empty_list, list, empty_object, object, Items, one, more, IsTree, IsWord, IsMinus, IsWhole, IsNumber, AreItems, AreSpaces, spelling, items, depth, items_depth}
-use Rattle.json_spans.specs.Machine.{Outcome, ended, stopped, too_deep, value_at, as_result}
+use Rattle.json_spans.specs.Machine.{Outcome, ended, value_at, as_result}
 use Rattle.json_spans.specs.Parts.{Part, part, is_value, space_len, Spells, kind_of}
 use Rattle.json_spans.specs.Inside.{items_at, elements_of}
 use Rattle.json_spans.specs.declared.fault.JsonFault.{JsonFault}
-use Rattle.json_spans.specs.declared.kind.Kind.{Kind}
 use Rattle.json_spans.specs.declared.kind.Kind.TheVariants as kind
 use Rattle.json_spans.proofs.Forward.{IsOver, IsOver-spaces, holds, digit_bounds}
 use Rattle.json_spans.proofs.Texts.{NoSpace, space_len-append, drop_front, take_front, value_no_space, value_forth, value_of, is_value-spelling}

@@ -1,17 +1,16 @@
 -- How the members of an object are gone through.
-use Rattle.std.proofs.Common.{◌≡◌, ◌≢◌, ◌⊎◌, ℕ, zero, suc, ◌+◌, ◌-◌, ◌<◌, ◌≤◌, Bool, true, false, cond, ◌==◌, List, [], ◌∷◌, ◌++◌, length, get_or, drop, take, map, refl, ap, ◌∙◌, sym, arith, rules, inl, inr, length-append, length-drop, Result, Ok, Err}
+use Rattle.std.proofs.Common.{◌≡◌, ℕ, suc, ◌+◌, ◌-◌, ◌<◌, ◌≤◌, Bool, true, false, cond, ◌==◌, List, [], ◌∷◌, ◌++◌, length, get_or, drop, take, refl, ap, ◌∙◌, sym, arith, inl, inr, length-append, length-drop, Ok, Err}
 use Rattle.std.proofs.lemmas.List.{append_assoc, drop-drop}
 use Rattle.std.proofs.lemmas.Bool.{eqb-true}
-use Rattle.json_spans.specs.Grammar.{Tree, Char, word, number, text, empty_list, list, empty_object, object, Members, one_member, more_members, IsTree, IsWord, AreMembers, AreSpaces, AreChars, spelling, quoted, members, depth, members_depth}
+use Rattle.json_spans.specs.Grammar.{Tree, Char, word, number, text, empty_list, list, empty_object, object, Members, one_member, more_members, IsTree, IsWord, AreMembers, AreSpaces, AreChars, spelling, quoted, members, members_depth}
 use Rattle.json_spans.specs.Machine.{value_at, as_result}
-use Rattle.json_spans.specs.Parts.{Part, part, is_value, space_len, Spells, kind_of}
+use Rattle.json_spans.specs.Parts.{part, is_value, space_len, Spells, kind_of}
 use Rattle.json_spans.specs.Inside.{Pair, members_at, members_of}
 use Rattle.json_spans.specs.declared.fault.JsonFault.{JsonFault}
-use Rattle.json_spans.specs.declared.kind.Kind.{Kind}
 use Rattle.json_spans.specs.declared.kind.Kind.TheVariants as kind
-use Rattle.json_spans.proofs.Texts.{space_len-append, drop_front, value_no_space}
+use Rattle.json_spans.proofs.Texts.{space_len-append, drop_front}
 use Rattle.json_spans.proofs.Forward.{IsOver, IsOver-spaces}
-use Rattle.json_spans.proofs.Lists.{value_there, Front, front, byte_there, byte_at, within, spelled, NumberHead, number_begins, no_bracket}
+use Rattle.json_spans.proofs.Lists.{value_there, Front, front, byte_there, within, spelled, number_begins, no_bracket}
 
 kind_object : (x : ℕ) (xs : List ℕ) → kind_of (x ∷ xs) ≡ kind.Object → x ≡ 123
 kind_object x xs h = eqb-true x 123 (by_tests _ _ _ _ _ _ refl refl refl refl refl refl h)

@@ -1,12 +1,12 @@
 -- Where a text is refused: the machine's stops are the grammar's.
-use Rattle.std.proofs.Common.{◌≡◌, ◌≢◌, ◌⊎◌, ℕ, suc, ◌+◌, ◌-◌, ◌<◌, ◌≤◌, Bool, true, false, cond, ◌&&◌, ◌||◌, not, ◌==◌, nat_lt, List, [], ◌∷◌, ◌++◌, length, length-append, drop, refl, ap, ◌∙◌, sym, arith, subst, inl, inr, IsTrue, Err}
+use Rattle.std.proofs.Common.{◌≡◌, ◌⊎◌, ℕ, suc, ◌+◌, ◌-◌, ◌≤◌, Bool, true, false, cond, ◌&&◌, ◌||◌, not, ◌==◌, nat_lt, List, [], ◌∷◌, ◌++◌, length, length-append, drop, refl, ap, ◌∙◌, sym, arith, subst, inl, inr, IsTrue, Err}
 use Rattle.std.proofs.lemmas.List.{append_assoc}
 use Rattle.std.proofs.lemmas.Bool.Decides.{nat_tests}
 use Rattle.std.proofs.lemmas.Bool.{lt-ltb, eqb-true}
 use Rattle.std.specs.Prelude.{IsUtf8}
 use Rattle.json_spans.specs.Bytes.{is_space, is_hex, is_high, is_low}
 use Rattle.json_spans.specs.Grammar.{Tree, AreSpaces, IsJson, depth, spelling, is_d}
-use Rattle.json_spans.specs.Faults.{Begins, Tests, first_half, second_half, passes, fits, Escapes, is_alone, LoneHalf, HalfNamed, GoesOn, Dead, FirstDead, IsSyntaxFault, IsDeepFault}
+use Rattle.json_spans.specs.Faults.{Begins, Tests, first_half, second_half, passes, fits, Escapes, is_alone, LoneHalf, HalfNamed, GoesOn, IsSyntaxFault, IsDeepFault}
 use Rattle.json_spans.specs.Table.{step, go_if, back, is_number_end}
 use Rattle.json_spans.specs.Machine.{Outcome, ended, stopped, too_deep, Stack, top_of, first_of, run, at_end}
 use Rattle.json_spans.specs.Machine.{value_at, as_result}
@@ -18,28 +18,28 @@ use Rattle.json_spans.specs.declared.table.Mode.{Mode}
 use Rattle.json_spans.specs.declared.table.Mode.TheVariants as mode
 use Rattle.json_spans.specs.declared.table.Action.{Action}
 use Rattle.json_spans.specs.declared.table.Action.TheVariants as does
-use Rattle.json_spans.proofs.Forward.{on, byte, spaces, value_begins, stays_value, holds}
-use Rattle.json_spans.proofs.Backward.{Headed, Spaces, spaces_of}
+use Rattle.json_spans.proofs.Forward.{byte, spaces, value_begins, stays_value, holds}
+use Rattle.json_spans.proofs.Backward.{Headed, spaces_of}
 use Rattle.json_spans.proofs.Texts.{nil, space_len-append, drop_front, end_at}
 use Rattle.json_spans.proofs.Completing.{same_back, same_front, IsAlive, goes_on, text_read, spaces_behind, value_in}
-use Rattle.json_spans.proofs.Course.{Reach, Behind, First, Second, Third, Half, Past, Verdict, stop_at, over, done, decided, Why, Read, Halted, Sunk, Course, read, halted, sunk, course, fine, StopsHere, LooksBack}
+use Rattle.json_spans.proofs.Course.{Reach, Second, Third, Half, Past, Verdict, stop_at, over, done, decided, Why, Read, Halted, Sunk, Course, read, halted, sunk, course, fine, StopsHere}
 
 -- ---- outcomes that differ
 
-ended_stopped : (p q : ℕ) → ended p ≡ stopped q → ⊥
+pub ended_stopped : (p q : ℕ) → ended p ≡ stopped q → ⊥
 ended_stopped p q e = cc
 
-ended_deep : (p q : ℕ) → ended p ≡ too_deep q → ⊥
+pub ended_deep : (p q : ℕ) → ended p ≡ too_deep q → ⊥
 ended_deep p q e = cc
 
-stopped_deep : (p q : ℕ) → stopped p ≡ too_deep q → ⊥
+pub stopped_deep : (p q : ℕ) → stopped p ≡ too_deep q → ⊥
 stopped_deep p q e = cc
 
-stopped_same : (p q : ℕ) → stopped p ≡ stopped q → p ≡ q
+pub stopped_same : (p q : ℕ) → stopped p ≡ stopped q → p ≡ q
 stopped_same p q e = cc
 
 -- a whole text of so many levels
-abbrev Reads : ℕ → List ℕ → Outcome
+abbrev pub Reads : ℕ → List ℕ → Outcome
 Reads limit text = run limit (length text) mode.Value false [] text
 
 -- ---- where nothing goes on
@@ -290,7 +290,7 @@ module _ (n : ℕ) (naming : Bool) (s : Stack) where
 
 -- ---- half of a pair alone is refused at its backslash
 
-alone_stops : (text : List ℕ) (q : ℕ) → LoneHalf text q → Reads 127 text ≡ stopped q
+pub alone_stops : (text : List ℕ) (q : ℕ) → LoneHalf text q → Reads 127 text ≡ stopped q
 alone_stops text q h = by_tests (passes second_half h.here) refl h.alone
   where
     r : TextAt h.front
@@ -319,7 +319,7 @@ alone_stops text q h = by_tests (passes second_half h.here) refl h.alone
 
 -- ---- an escape of a second half that isn't whole is read to the end
 
-half_named_reads : (bytes : List ℕ) → HalfNamed bytes → (n : ℕ) → run 127 n mode.Value false [] bytes ≡ stopped n
+pub half_named_reads : (bytes : List ℕ) → HalfNamed bytes → (n : ℕ) → run 127 n mode.Value false [] bytes ≡ stopped n
 unfolding run
 half_named_reads bytes h n = ap (run 127 n mode.Value false []) h.is ∙ r.reach 127 n h.part (omega arith) ∙ of_part h.part h.names h.digits h.open_
   where
@@ -382,7 +382,7 @@ lone_low_at text front x rest is h hx p e =
       alone = alone_low h.a h.b h.c x rest h.is_first h.is_second h.is_third hx;
     }
 
-named_four : (front : List ℕ) → Second is_low front → HalfNamed front
+pub named_four : (front : List ℕ) → Second is_low front → HalfNamed front
 named_four front h = record {
   front = h.behind.f;
   part = 92 ∷ 117 ∷ h.a ∷ h.b ∷ [];
@@ -393,7 +393,7 @@ named_four front h = record {
   open_ = omega arith;
 }
 
-named_five : (front : List ℕ) → Third is_low front → HalfNamed front
+pub named_five : (front : List ℕ) → Third is_low front → HalfNamed front
 named_five front h = record {
   front = h.behind.f;
   part = 92 ∷ 117 ∷ h.a ∷ h.b ∷ h.c ∷ [];
@@ -567,7 +567,7 @@ module _ (text : List ℕ) (p : ℕ) (h : Reads 127 text ≡ stopped p) where
   halted_fault c done says why = absurd (ended_stopped _ _ (sym (ap (run 127 (length text) mode.Value false []) c.is ∙ c.reach 127 (length text) (c.x ∷ c.rest) (omega arith) ∙ says 127 (length text) c.rest (omega arith)) ∙ h))
 
 -- a byte that opens level 128
-sunk_reads : (text : List ℕ) (c : Sunk text) → (n : ℕ) (ys : List ℕ) → run 127 n mode.Value false [] (c.front ++ c.x ∷ ys) ≡ too_deep (n - suc (length ys))
+pub sunk_reads : (text : List ℕ) (c : Sunk text) → (n : ℕ) (ys : List ℕ) → run 127 n mode.Value false [] (c.front ++ c.x ∷ ys) ≡ too_deep (n - suc (length ys))
 sunk_reads text c n ys =
     c.reach 127 n (c.x ∷ ys) (omega arith) ∙ byte 127 n c.m c.naming c.s c.x ys (does.Open c.b) c.opens
     ∙ ap (λ k. cond (nat_lt k 127) (run 127 n (first_of c.b) c.naming (c.b ∷ c.s) ys) (too_deep (n - suc (length ys)))) c.size
@@ -732,7 +732,7 @@ module _ (text u w : List ℕ) (p : ℕ) (is : text ≡ u ++ w)
 
 -- ---- the whole text
 
-whole_reads : (text : List ℕ) → whole text ≡ and_then_the_end text (Reads 127 text)
+pub whole_reads : (text : List ℕ) → whole text ≡ and_then_the_end text (Reads 127 text)
 whole_reads text =
     let w = spaces_of text in
     let n : space_len text ≡ length w.ws = ap space_len w.is ∙ space_len-append w.ws w.rest w.are w.over in
@@ -784,7 +784,7 @@ value_fault text e p h g = by_course (course text)
     by_course (halted c) = by_verdict c c.verdict c.says (all_halted text c)
     by_course (sunk c) = absurd (ended_deep _ _ (sym h ∙ ap (run 127 (length text) mode.Value false []) c.is ∙ sunk_reads text c (length text) c.rest))
 
-syntax_fault : (text : List ℕ) (p : ℕ) → whole text ≡ stopped p → IsSyntaxFault text p
+pub syntax_fault : (text : List ℕ) (p : ℕ) → whole text ≡ stopped p → IsSyntaxFault text p
 syntax_fault text p h = by_outcome (Reads 127 text) refl (sym (whole_reads text) ∙ h)
   where
     by_outcome : (o : Outcome) → Reads 127 text ≡ o → and_then_the_end text o ≡ stopped p → IsSyntaxFault text p
@@ -792,7 +792,7 @@ syntax_fault text p h = by_outcome (Reads 127 text) refl (sym (whole_reads text)
     by_outcome (stopped q) r g = stop_fault text p (r ∙ g)
     by_outcome (too_deep q) r g = absurd (cc)
 
-level_fault : (text : List ℕ) (p : ℕ) → whole text ≡ too_deep p → IsDeepFault text p
+pub level_fault : (text : List ℕ) (p : ℕ) → whole text ≡ too_deep p → IsDeepFault text p
 level_fault text p h = by_outcome (Reads 127 text) refl (sym (whole_reads text) ∙ h)
   where
     not_deep : (e : ℕ) → at_the_end text e ≡ too_deep p → ⊥

@@ -1,19 +1,17 @@
 -- A whole text: white space, one value, white space.
-use Rattle.std.proofs.Common.{◌≡◌, ◌≢◌, ◌⊎◌, ℕ, zero, suc, ◌+◌, ◌-◌, ◌<◌, ◌≤◌, Bool, true, false, cond, ◌&&◌, not, ◌==◌, List, [], ◌∷◌, ◌++◌, length, get_or, drop, take, refl, ap, ◌∙◌, sym, arith, rules, inl, inr, IsTrue, length-append, Result, Ok, Err}
-use Rattle.std.proofs.lemmas.List.{append_assoc, drop_more, drop_all, length-drop}
+use Rattle.std.proofs.Common.{◌≡◌, ℕ, suc, ◌+◌, ◌-◌, ◌<◌, ◌≤◌, Bool, true, false, cond, ◌&&◌, not, ◌==◌, List, [], ◌∷◌, ◌++◌, length, get_or, drop, take, refl, ap, ◌∙◌, sym, arith, inl, inr, length-append, Ok, Err}
+use Rattle.std.proofs.lemmas.List.{append_assoc, drop_more, drop_all}
 use Rattle.std.proofs.lemmas.Bool.Decides.{nat_tests}
 use Rattle.std.proofs.lemmas.Bool.{eqb-true}
-use Rattle.json_spans.specs.Bytes.{is_space, is_digit, is_exponent}
-use Rattle.json_spans.specs.Grammar.{Tree, word, number, text, empty_list, list, empty_object, object, IsTree, IsMinus, IsWhole, IsNumber, AreSpaces, spelling, depth, IsJson}
+use Rattle.json_spans.specs.Bytes.{is_space, is_digit}
+use Rattle.json_spans.specs.Grammar.{Tree, word, number, text, empty_list, list, empty_object, object, IsTree, IsMinus, IsWhole, AreSpaces, spelling, depth}
 use Rattle.json_spans.specs.Machine.{Outcome, ended, stopped, too_deep, run, value_at, as_result}
-use Rattle.json_spans.specs.Parts.{Part, part, is_value, ends_at, space_len, IsText, IsCut, Spells}
-use Rattle.json_spans.specs.Cut.{at_the_end, and_then_the_end, whole, Refuses}
-use Rattle.json_spans.specs.declared.fault.JsonFault.TheVariants as fault
-use Rattle.std.specs.Prelude.{IsUtf8}
+use Rattle.json_spans.specs.Parts.{is_value, ends_at, space_len, IsText}
+use Rattle.json_spans.specs.Cut.{at_the_end, and_then_the_end, whole}
 use Rattle.json_spans.specs.declared.fault.JsonFault.{JsonFault}
 use Rattle.json_spans.specs.declared.table.Mode.TheVariants as mode
 use Rattle.json_spans.proofs.Forward.{IsOver, IsOver-spaces, value_read, value_begins, holds, digit_bounds}
-use Rattle.json_spans.proofs.Backward.{Headed, Spaces, spaces_of, value_back, holding}
+use Rattle.json_spans.proofs.Backward.{Headed, spaces_of, value_back}
 
 pub space_len-space : (d : List ℕ) (i : ℕ) → i < length d → is_space (get_or d i 0) ≡ true → space_len (drop i d) ≡ suc (space_len (drop (i + 1) d))
 unfolding space_len

@@ -1,12 +1,12 @@
 -- Dropping white space byte by byte spells the value without white space.
-use Rattle.std.proofs.Common.{◌≡◌, ◌≢◌, ◌⊎◌, ℕ, ◌≤◌, Bool, true, false, cond, ◌||◌, ◌==◌, List, [], ◌∷◌, ◌++◌, refl, ap, ◌∙◌, sym, arith, inl, inr, IsTrue}
+use Rattle.std.proofs.Common.{◌≡◌, ℕ, ◌<◌, true, false, ◌||◌, ◌==◌, List, [], ◌∷◌, ◌++◌, refl, ap, ◌∙◌, sym, arith, inl, inr}
 use Rattle.std.proofs.lemmas.List.{append_assoc}
 use Rattle.std.proofs.lemmas.Bool.Decides.{nat_tests}
 use Rattle.std.proofs.lemmas.Bool.{ne_eqb}
 use Rattle.json_spans.specs.Bytes.{is_space, is_digit, is_hex, is_exponent}
 use Rattle.json_spans.specs.Grammar as grammar
 use Rattle.json_spans.specs.Grammar.{Char, char, chars, quoted, IsChar, AreChars, AreSpaces, Tree, word, number, text, empty_list, list, empty_object, object, Items, one, more, Members, one_member, more_members, spelling, items, members, IsTree, AreItems, AreMembers, IsWord, AreDigits, AreSomeDigits, IsMinus, IsWhole, IsFraction, IsSigned, IsExponent, IsNumber}
-use Rattle.json_spans.specs.Parts.{Part, Spells}
+use Rattle.json_spans.specs.Parts.{Part}
 use Rattle.json_spans.specs.Tight.{tight, tight_items, tight_members, IsTight}
 use Rattle.json_spans.specs.Squeeze.{squeezed_from, squeezed}
 use Rattle.json_spans.specs.declared.squeeze.Where.TheVariants as at
@@ -30,67 +30,70 @@ unfolding squeezed_from
 spaces_gone [] xs h = refl
 spaces_gone (x ∷ w) xs h = rw (holds h.0, ne_eqb x 34 (space_is x 34 (holds h.0) refl)) (spaces_gone w xs h.1)
 
--- ---- bytes that are kept outside strings
+-- ---- bytes of words and numbers: they are kept outside strings, and are ASCII
 
-abbrev AreKept : List ℕ → Type 0
+abbrev pub IsKept : ℕ → Type 0
+IsKept x = (is_space x ≡ false) × ((x == 34) ≡ false) × (x < 128)
+
+abbrev pub AreKept : List ℕ → Type 0
 AreKept [] = Unit {0}
-AreKept (x ∷ xs) = (is_space x ≡ false) × ((x == 34) ≡ false) × AreKept xs
+AreKept (x ∷ xs) = IsKept x × AreKept xs
 
 keeps : (s xs : List ℕ) → AreKept s → S (s ++ xs) ≡ s ++ S xs
 keeps [] xs h = refl
-keeps (x ∷ s) xs h = keeps_one x (s ++ xs) h.0 h.1 ∙ ap (λ z. x ∷ z) (keeps s xs h.2)
+keeps (x ∷ s) xs h = keeps_one x (s ++ xs) h.0.0 h.0.1 ∙ ap (λ z. x ∷ z) (keeps s xs h.1)
 
 kept_append : (a b : List ℕ) → AreKept a → AreKept b → AreKept (a ++ b)
 kept_append [] b h g = g
-kept_append (x ∷ a) b h g = (h.0, h.1, kept_append a b h.2 g)
+kept_append (x ∷ a) b h g = (h.0, kept_append a b h.1 g)
 
-kept_digit : (x : ℕ) → is_digit x ≡ true → (is_space x ≡ false) × ((x == 34) ≡ false)
-kept_digit x h = (grind (arith, nat_tests), grind (arith, nat_tests))
+kept_digit : (x : ℕ) → is_digit x ≡ true → IsKept x
+kept_digit x h = (grind (arith, nat_tests), grind (arith, nat_tests), grind (arith, nat_tests))
 
-kept_exponent : (x : ℕ) → is_exponent x ≡ true → (is_space x ≡ false) × ((x == 34) ≡ false)
-kept_exponent x h = (grind (arith, nat_tests), grind (arith, nat_tests))
+kept_exponent : (x : ℕ) → is_exponent x ≡ true → IsKept x
+kept_exponent x h = (grind (arith, nat_tests), grind (arith, nat_tests), grind (arith, nat_tests))
 
-kept_sign : (x : ℕ) → ((x == 43) || (x == 45)) ≡ true → (is_space x ≡ false) × ((x == 34) ≡ false)
-kept_sign x h = (grind (arith, nat_tests), grind (arith, nat_tests))
+kept_sign : (x : ℕ) → ((x == 43) || (x == 45)) ≡ true → IsKept x
+kept_sign x h = (grind (arith, nat_tests), grind (arith, nat_tests), grind (arith, nat_tests))
 
 kept_digits : (s : List ℕ) → AreDigits s → AreKept s
 kept_digits [] h = tt
-kept_digits (x ∷ s) h = let k = kept_digit x (holds h.0) in (k.0, k.1, kept_digits s h.1)
+kept_digits (x ∷ s) h = (kept_digit x (holds h.0), kept_digits s h.1)
 
 kept_some : (s : List ℕ) → AreSomeDigits s → AreKept s
 kept_some [] h = absurd h
-kept_some (x ∷ s) h = let k = kept_digit x (holds h.0) in (k.0, k.1, kept_digits s h.1)
+kept_some (x ∷ s) h = (kept_digit x (holds h.0), kept_digits s h.1)
 
 kept_minus : (s : List ℕ) → IsMinus s → AreKept s
 kept_minus s (inl h) = rw h tt
-kept_minus s (inr h) = rw h (refl, refl, tt)
+kept_minus s (inr h) = rw h ((refl, refl, omega arith), tt)
 
 kept_whole : (s : List ℕ) → IsWhole s → AreKept s
 kept_whole [] h = absurd h
-kept_whole (x ∷ s) (inl h) = rw (h.0, h.1) (refl, refl, tt)
-kept_whole (x ∷ s) (inr h) = let k = kept_digit x (holds h.1) in (k.0, k.1, kept_digits s h.2)
+kept_whole (x ∷ s) (inl h) = rw (h.0, h.1) ((refl, refl, omega arith), tt)
+kept_whole (x ∷ s) (inr h) = (kept_digit x (holds h.1), kept_digits s h.2)
 
 kept_fraction : (s : List ℕ) → IsFraction s → AreKept s
 kept_fraction [] h = tt
-kept_fraction (x ∷ s) h = rw h.0 (refl, refl, kept_some s h.1)
+kept_fraction (x ∷ s) h = rw h.0 ((refl, refl, omega arith), kept_some s h.1)
 
 kept_signed : (s : List ℕ) → IsSigned s → AreKept s
 kept_signed [] h = absurd h
-kept_signed (x ∷ s) (inl h) = let k = kept_sign x (holds h.0) in (k.0, k.1, kept_some s h.1)
-kept_signed (x ∷ s) (inr h) = let k = kept_digit x (holds h.0) in (k.0, k.1, kept_digits s h.1)
+kept_signed (x ∷ s) (inl h) = (kept_sign x (holds h.0), kept_some s h.1)
+kept_signed (x ∷ s) (inr h) = (kept_digit x (holds h.0), kept_digits s h.1)
 
 kept_power : (s : List ℕ) → IsExponent s → AreKept s
 kept_power [] h = tt
-kept_power (x ∷ s) h = let k = kept_exponent x (holds h.0) in (k.0, k.1, kept_signed s h.1)
+kept_power (x ∷ s) h = (kept_exponent x (holds h.0), kept_signed s h.1)
 
-kept_number : (s : List ℕ) → IsNumber s → AreKept s
+pub kept_number : (s : List ℕ) → IsNumber s → AreKept s
 kept_number s h =
     rw h.is (kept_append h.minus _ (kept_minus h.minus h.is_minus) (kept_append h.whole _ (kept_whole h.whole h.is_whole) (kept_append h.fraction _ (kept_fraction h.fraction h.is_fraction) (kept_power h.exponent h.is_exponent))))
 
-kept_word : (s : List ℕ) → IsWord s → AreKept s
-kept_word s (inl h) = rw h (refl, refl, (refl, refl, (refl, refl, (refl, refl, tt))))
-kept_word s (inr (inl h)) = rw h (refl, refl, (refl, refl, (refl, refl, (refl, refl, (refl, refl, tt)))))
-kept_word s (inr (inr h)) = rw h (refl, refl, (refl, refl, (refl, refl, (refl, refl, tt))))
+pub kept_word : (s : List ℕ) → IsWord s → AreKept s
+kept_word s (inl h) = rw h ((refl, refl, omega arith), ((refl, refl, omega arith), ((refl, refl, omega arith), ((refl, refl, omega arith), tt))))
+kept_word s (inr (inl h)) = rw h ((refl, refl, omega arith), ((refl, refl, omega arith), ((refl, refl, omega arith), ((refl, refl, omega arith), ((refl, refl, omega arith), tt)))))
+kept_word s (inr (inr h)) = rw h ((refl, refl, omega arith), ((refl, refl, omega arith), ((refl, refl, omega arith), ((refl, refl, omega arith), tt))))
 
 -- ---- strings
 

@@ -1,7 +1,7 @@
 -- Reading a whole text: white space, one value, white space.
-use Rattle.std.specs.Prelude.{◌≡◌, ℕ, ◌+◌, List, length, drop, if◌then◌else◌, ◌==◌, Err, IsUtf8}
+use Rattle.std.specs.Prelude.{ℕ, ◌+◌, List, length, drop, if◌then◌else◌, ◌==◌, IsUtf8}
 use Rattle.json_spans.specs.Parts.{space_len}
-use Rattle.json_spans.specs.Machine.{Outcome, ended, stopped, too_deep, value_at, as_result}
+use Rattle.json_spans.specs.Machine.{Outcome, ended, stopped, too_deep, value_at}
 use Rattle.json_spans.specs.Faults.{IsSyntaxFault, IsDeepFault}
 use Rattle.json_spans.specs.declared.fault.JsonFault.{JsonFault}
 use Rattle.json_spans.specs.declared.fault.JsonFault.TheVariants as fault

@@ -11,3 +11,4 @@ pub mod Tight
 pub mod Inside
 pub mod Names
 pub mod Faults
+pub mod OneWay

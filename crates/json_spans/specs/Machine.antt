@@ -1,5 +1,5 @@
 -- What reading a value from a place comes to: where it ends, or where it is refused.
-use Rattle.std.specs.Prelude.{ℕ, ◌+◌, ◌-◌, List, [], ◌∷◌, length, Bool, true, false, if◌then◌else◌, ◌&&◌, nat_lt, get_or, zero, suc, Result, Ok, Err}
+use Rattle.std.specs.Prelude.{ℕ, ◌+◌, ◌-◌, List, [], ◌∷◌, length, Bool, true, false, if◌then◌else◌, nat_lt, get_or, zero, suc, ◌≡◌, Option, Some, None, Result, Ok, Err}
 use Rattle.json_spans.specs.declared.fault.JsonFault.{JsonFault}
 use Rattle.json_spans.specs.declared.fault.JsonFault.TheVariants.{Syntax, Deep}
 use Rattle.json_spans.specs.Table.{step, back, is_number_end}
@@ -54,6 +54,17 @@ react limit p q naming s k does.Close = close p q naming s k
 react limit p q naming s k does.Over = ended p
 react limit p q naming s k (does.Stop n) = stopped (p - n)
 
+-- how a call says it
+abbrev pub as_result : Outcome → Result ℕ JsonFault
+as_result (ended p) = Ok p
+as_result (stopped p) = Err (Syntax p)
+as_result (too_deep p) = Err (Deep p)
+
+-- a turn that comes to o answers so, or goes on as k
+abbrev pub Turns : Outcome → Option (Result ℕ JsonFault) → Outcome → Type 0
+Turns o None k = o ≡ k
+Turns o (Some answer) k = answer ≡ as_result o
+
 abbrev pub at_end : ℕ → Mode → Stack → Outcome
 at_end p m [] = if is_number_end m then ended p else stopped (p - back m)
 at_end p m (b ∷ s) = stopped (p - back m)
@@ -71,9 +82,3 @@ value_at p xs = run 127 (p + length xs) mode.Value false [] xs
 unfoldable pub stack_of : List Bool → ℕ → Stack
 stack_of brackets zero = []
 stack_of brackets (suc n) = get_or brackets n false ∷ stack_of brackets n
-
--- how a call says it
-abbrev pub as_result : Outcome → Result ℕ JsonFault
-as_result (ended p) = Ok p
-as_result (stopped p) = Err (Syntax p)
-as_result (too_deep p) = Err (Deep p)

@@ -1,6 +1,7 @@
 //! JSON text (RFC 8259) cut into slices of the text, with its numbers untouched.
 #![tactic(auto)]
 
+mod count;
 mod element_list;
 mod fault;
 mod kind;
@@ -17,10 +18,11 @@ mod strings;
 mod table;
 mod whole;
 
+pub use count::element_count;
 pub use element_list::ElementList;
 pub use fault::JsonFault;
 pub use kind::Kind;
-pub use laws::strings_are_characters;
+pub use laws::{a_text_is_read_one_way, a_text_is_refused_one_way, strings_are_characters};
 pub use list::elements;
 pub use member_list::MemberList;
 pub use names::members;

@@ -3,7 +3,7 @@ ghost use Rattle.std.specs.Prelude.{◌≡◌, ◌≤◌, ◌<◌, IfOk, IfErr, 
 ghost use Rattle.json_spans.specs.Parts.{kind_of};
 ghost use Rattle.json_spans.specs.Span.{part_of, pair_of};
 ghost use Rattle.json_spans.specs.Inside.{AreMembersOf, ObjectFault, RepeatFault, Differ, no_pair};
-ghost use Rattle.json_spans.specs.Names.{Distinct, Twice, AreNames};
+ghost use Rattle.json_spans.specs.Names.{Distinct, Twice, AreNames, HaveNames};
 
 use crate::fault::JsonFault;
 use crate::kind::Kind;
@@ -35,7 +35,9 @@ fn first_twice(texts: &[Text]) -> Option<(usize, usize)>
 }
 
 fn names_of(alloc: Global, pairs: &[(Span<'_>, Span<'_>)]) -> Result<Vec<Text>, NoMemory>
-    ensures { IfOk result (λ v. AreNames (map pair_of pairs.now) v.items) }
+    requires { HaveNames (map pair_of pairs.now) }
+    ensures ok { IfOk result (λ v. AreNames (map pair_of pairs.now) v.items) }
+    ensures err { IfErr result (λ _. 0 < length (map pair_of pairs.now)) }
 {
     let mut names = Vec::new(alloc);
     for pair in pairs {
@@ -57,6 +59,7 @@ fn name_place(pairs: &[(Span<'_>, Span<'_>)], i: usize) -> u64
 
 // Whether two members have one name.
 fn check_names(alloc: Global, pairs: &[(Span<'_>, Span<'_>)]) -> Result<(), JsonFault>
+    requires { HaveNames (map pair_of pairs.now) }
     ensures ok { OnOk result (Differ (map pair_of pairs.now) (length pairs.now)) }
     ensures err { IfErr result (RepeatFault (map pair_of pairs.now)) }
 {

@@ -1,4 +1,5 @@
 ghost use Rattle.std.specs.Prelude.{◌≡◌, ◌<◌, ◌+◌, ◌^◌, length, true};
+ghost use Rattle.std.specs.Str.{is_utf8};
 ghost use Rattle.json_spans.specs.Parts.{is_value, kind_of};
 
 use crate::kind::Kind;
@@ -9,11 +10,12 @@ pub struct Span<'a> {
     pub(crate) bytes: &'a [u8],
     pub(crate) place: u64,
     pub ghost valid: { is_value bytes.now ≡ true },
+    pub ghost utf8: { is_utf8 bytes.now ≡ true },
     pub ghost fits: { place + length bytes.now < 2 ^ 64 },
 }
 
 impl<'a> Span<'a> {
-    ghost use Rattle.std.specs.Prelude.{◌≡◌};
+    ghost use Rattle.std.specs.Prelude.{◌≡◌, IsUtf8};
     ghost use Rattle.json_spans.specs.Parts.{kind_of};
     ghost use Rattle.json_spans.specs.Span.{part_of};
 
@@ -41,7 +43,8 @@ impl<'a> Span<'a> {
 
     /// The value's bytes, a slice of the text that was cut.
     pub fn bytes(&self) -> &'a [u8]
-        ensures { result.now ≡ (part_of self.now).bytes }
+        ensures value { result.now ≡ (part_of self.now).bytes }
+        ensures utf8 { IsUtf8 result.now }
     {
         self.bytes
     }

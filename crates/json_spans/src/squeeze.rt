@@ -69,8 +69,6 @@ pub fn squeezed(alloc: Global, span: Span<'_>) -> Result<Text, NoMemory>
     ensures bytes { IfOk result (λ t. t ≡ squeezed (part_of span.entry).bytes) }
 {
     let out = squeeze(alloc, span.bytes)?;
-    match std::str::from_utf8(out.as_slice()) {
-        Ok(text) => Text::of(alloc, text),
-        Err(_) => Err(NoMemory),
-    }
+    // What is left out is ASCII, so the rest is UTF-8 still.
+    Ok(Text::from_string(String::from_utf8(out).unwrap()))
 }

@@ -13,12 +13,23 @@ use serde_json::Value;
 use std::alloc::Global;
 
 pub(crate) fn read_text(alloc: Global, span: &Span<'_>) -> Result<Text, NoMemory>
+    requires { kind_of (part_of span.now).bytes ≡ Kind.Text }
     ensures { IfOk result (λ t. read (part_of span.now).bytes ≡ Some (string t)) }
 {
-    match Value::from_slice(alloc, span.bytes) {
-        Ok(Value::String(s)) => Ok(Text::from_string(s)),
-        _ => Err(NoMemory),
-    }
+    // serde_json reads each string of the grammar, and as a string.
+    let value = match Value::from_slice(alloc, span.bytes) {
+        Ok(value) => value,
+        Err(fault) => {
+            if !fault.is_memory() {
+                unreachable!();
+            }
+            return Err(NoMemory);
+        }
+    };
+    let Value::String(characters) = value else {
+        unreachable!();
+    };
+    Ok(Text::from_string(characters))
 }
 
 /// The characters of a string, with its escapes read (RFC 8259 §7). Err is want of memory.

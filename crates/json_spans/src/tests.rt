@@ -2,9 +2,48 @@ use super::*;
 use crate::JsonFault::{Deep, Many, NotUtf8, Repeated, Syntax};
 use std::alloc::{AllocError, Global};
 
+// The examples of RFC 8259, section 13.
+const IMAGE: &[u8] = br#"{
+  "Image": {
+      "Width":  800,
+      "Height": 600,
+      "Title":  "View from 15th Floor",
+      "Thumbnail": {
+          "Url":    "http://www.example.com/image/481989943",
+          "Height": 125,
+          "Width":  100
+      },
+      "Animated" : false,
+      "IDs": [116, 943, 234, 38793]
+    }
+}"#;
+
+const PLACES: &[u8] = br#"[
+  {
+     "precision": "zip",
+     "Latitude":  37.7668,
+     "Longitude": -122.3959,
+     "Address":   "",
+     "City":      "SAN FRANCISCO",
+     "State":     "CA",
+     "Zip":       "94107",
+     "Country":   "US"
+  },
+  {
+     "precision": "zip",
+     "Latitude":  37.371991,
+     "Longitude": -122.026020,
+     "Address":   "",
+     "City":      "SUNNYVALE",
+     "State":     "CA",
+     "Zip":       "94085",
+     "Country":   "US"
+  }
+]"#;
+
 #[test]
 fn outside_cases(rt: HostRuntime) {
-    // The RFC's two examples, its literals and numbers, and each kind of refusal at its byte.
+    // The standard's examples, its literals and numbers, and each kind of refusal at its byte.
     let table: &[(&[u8], Option<JsonFault>)] = &[
         (b"", Some(Syntax { at: 0 })),
         (b" ", Some(Syntax { at: 1 })),
@@ -82,15 +121,19 @@ fn outside_cases(rt: HostRuntime) {
         (b"\"\xff\"", Some(NotUtf8)),
         (b"1\xff", Some(NotUtf8)),
         (b"\"\xed\xa0\x80\"", Some(NotUtf8)),
-        (b"[116, 943, 234, 38793]", None),
-        (
-            b"{\"Image\":{\"Width\":800,\"Title\":\"View from 15th Floor\",\"Animated\":false}}",
-            None,
-        ),
-        (
-            b"[{\"precision\":\"zip\",\"Latitude\":37.7668,\"Longitude\":-122.3959}]",
-            None,
-        ),
+        (IMAGE, None),
+        (PLACES, None),
+        (b"\"Hello world!\"", None),
+        (b"42", None),
+        (b"true", None),
+        (b"\"\\uDEAD\"", Some(Syntax { at: 1 })),
+        (b"\"\x00\"", Some(Syntax { at: 1 })),
+        (b"\"\\u0000\"", None),
+        (b"\"\xe2\x80\xa8\"", None),
+        (b"\x0c1", Some(Syntax { at: 0 })),
+        (b"[1e400]", None),
+        (b"[1,,1]", Some(Syntax { at: 3 })),
+        (b"{\"\":0}", None),
         (b"[1]//", Some(Syntax { at: 3 })),
     ];
     for (text, fault) in table {
@@ -123,6 +166,33 @@ fn a_span(rt: HostRuntime) {
             assert_eq!(rt; span.bytes(), b"[1.50]".as_slice());
         }
         Err(_) => assert!(rt; false),
+    }
+}
+
+#[test]
+fn without_white_space(rt: HostRuntime) {
+    let table: &[(&[u8], &str)] = &[
+        (b"[ 1.0 , \"a b\" ]", "[1.0,\"a b\"]"),
+        (
+            IMAGE,
+            "{\"Image\":{\"Width\":800,\"Height\":600,\"Title\":\"View from 15th Floor\",\"Thumbnail\":{\"Url\":\"http://www.example.com/image/481989943\",\"Height\":125,\"Width\":100},\"Animated\":false,\"IDs\":[116,943,234,38793]}}",
+        ),
+        (b" \"\\\" \\\\\" ", "\"\\\" \\\\\""),
+        (
+            b"{ \"\xc3\xa9 \" :\t\"\xf0\x9f\x98\x80\" }\n",
+            "{\"\u{e9} \":\"\u{1f600}\"}",
+        ),
+    ];
+    for (text, tight) in table {
+        let Ok(span) = cut(text) else {
+            assert!(rt; false);
+            return;
+        };
+        if let Ok(squeezed) = squeezed(rt.alloc(), span) {
+            assert_eq!(rt; squeezed.as_str(), *tight);
+        } else {
+            assert!(rt; false);
+        }
     }
 }
 
@@ -181,6 +251,7 @@ fn parts(rt: HostRuntime) {
         return;
     };
     assert_eq!(rt; list.items().len(), 2);
+    assert_eq!(rt; element_count(span), 0);
     for pair in list.items() {
         let (name, value) = *pair;
         if name.place() == 2 {
@@ -192,6 +263,7 @@ fn parts(rt: HostRuntime) {
             } else {
                 assert!(rt; false);
             }
+            assert_eq!(rt; element_count(value), 2);
             if value.kind() == Kind::List {
                 assert!(rt;
                     matches!(

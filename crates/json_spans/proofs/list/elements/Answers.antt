@@ -1,10 +1,8 @@
-use Rattle.std.proofs.Common.{◌≡◌, ◌+◌, ◌-◌, ◌≤◌, List, [], ◌∷◌, ◌++◌, length, take, drop, arith, rules, sym, ap, ◌∙◌, refl, map, length-take, length-append}
-use Rattle.std.proofs.lemmas.List.{map_push, length-map}
-use Rattle.json_spans.specs.Grammar.{Tree}
-use Rattle.json_spans.specs.Parts.{part, Spells}
+use Rattle.std.proofs.Common.{◌≡◌, ◌-◌, [], length, drop, arith, ap, ◌∙◌, refl, map, length-take, length-append}
+use Rattle.std.proofs.lemmas.List.{length-map}
 use Rattle.json_spans.specs.Span.{part_of}
-use Rattle.json_spans.specs.Inside.{elements_of}
-use Rattle.json_spans.proofs.Lists.{ItemsLeft, ItemRead, first_within, empty_items, first_items, item_read, item_there, items_within, spelled}
+use Rattle.json_spans.proofs.Lists.{first_within, empty_items, first_items, item_read, item_there, items_within, spelled}
+use Rattle.json_spans.proofs.Utf8.{slice_utf8}
 use Rattle.json_spans.proofs.list.elements.Goals as goal
 
 pub bounds-bytes-first : goal.bounds-bytes-first
@@ -43,7 +41,7 @@ invariant_of-item c =
     let v = spelled c.args.span.place c.args.span.bytes.now c.args.span.valid in
     let r = item_read c.args.span.bytes.now c.args.span.place c.loop-at.at done v.0 (c.loop-at.invariant.left v.0 v.1) c.in-Ok.places.from c.in-Ok.places.to c.in-Ok.places.end c.in-Ok.ensures.from c.in-Ok.ensures.to c.in-Ok.ensures.end in
     let b = c.in-Ok.ensures.bounds in
-    record { valid = r.valid; fits = omega (arith, length-take (c.in-Ok.places.to - c.in-Ok.places.from) (drop c.in-Ok.places.from c.args.span.bytes.now), b.1, b.2, b.3, c.args.span.fits) }
+    record { valid = r.valid; utf8 = slice_utf8 c.args.span.bytes.now c.in-Ok.places.from c.in-Ok.places.to c.args.span.utf8 (omega (arith, b.2, b.3)) r.valid; fits = omega (arith, length-take (c.in-Ok.places.to - c.in-Ok.places.from) (drop c.in-Ok.places.from c.args.span.bytes.now), b.1, b.2, b.3, c.args.span.fits) }
 
 pub bounds-bytes-places : goal.bounds-bytes-places
 bounds-bytes-places c =
@@ -82,3 +80,9 @@ unreachable-requires-2 c =
     let v = spelled c.args.span.place c.args.span.bytes.now c.args.span.valid in
     let inside = items_within c.args.span.bytes.now c.args.span.place c.loop-at.at (map part_of c.loop-at.found.items) v.0 (c.loop-at.invariant.left v.0 v.1) in
     omega (arith, inside, c.loop-at-test.false)
+
+pub returns-in_default-keep-clause-refused : goal.returns-in_default-keep-clause-refused
+returns-in_default-keep-clause-refused c = λ v h.
+    let done = map part_of c.loop-at.found.items in
+    let r = item_read c.args.span.bytes.now c.args.span.place c.loop-at.at done v (c.loop-at.invariant.left v h) c.in-Ok.places.from c.in-Ok.places.to c.in-Ok.places.end c.in-Ok.ensures.from c.in-Ok.ensures.to c.in-Ok.ensures.end in
+    omega (arith, r.some)

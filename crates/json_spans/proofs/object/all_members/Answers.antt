@@ -1,8 +1,9 @@
-use Rattle.std.proofs.Common.{◌≡◌, ◌+◌, ◌-◌, ◌≤◌, List, [], ◌∷◌, ◌++◌, length, take, drop, arith, rules, sym, ap, ◌∙◌, refl, map, length-take, length-append}
+use Rattle.std.proofs.Common.{◌≡◌, ◌-◌, [], length, drop, arith, ap, ◌∙◌, refl, map, length-take, length-append}
 use Rattle.std.proofs.lemmas.List.{length-map}
-use Rattle.json_spans.specs.Span.{part_of, pair_of}
+use Rattle.json_spans.specs.Span.{pair_of}
 use Rattle.json_spans.proofs.Lists.{spelled}
 use Rattle.json_spans.proofs.Objects.{first_within, empty_members, first_members, name_read, member_read, name_there, member_there, members_within}
+use Rattle.json_spans.proofs.Utf8.{slice_utf8}
 use Rattle.json_spans.proofs.object.all_members.Goals as goal
 
 pub bounds-bytes-first : goal.bounds-bytes-first
@@ -55,7 +56,7 @@ invariant_of-name_span c =
     let v = spelled c.args.span.place c.args.span.bytes.now c.args.span.valid in
     let r = name_read c.args.span.bytes.now c.args.span.place c.loop-at.at done v.0 (c.loop-at.invariant.left v.0 v.1) c.in-Ok.name.from c.in-Ok.name.to c.in-Ok.name.end c.in-Ok.ensures.from c.in-Ok.ensures.to c.in-Ok.ensures.end in
     let b = c.in-Ok.ensures.bounds in
-    record { valid = r.valid; fits = omega (arith, length-take (c.in-Ok.name.to - c.in-Ok.name.from) (drop c.in-Ok.name.from c.args.span.bytes.now), b.1, b.2, b.3, c.args.span.fits) }
+    record { valid = r.valid; utf8 = slice_utf8 c.args.span.bytes.now c.in-Ok.name.from c.in-Ok.name.to c.args.span.utf8 (omega (arith, b.2, b.3)) r.valid; fits = omega (arith, length-take (c.in-Ok.name.to - c.in-Ok.name.from) (drop c.in-Ok.name.from c.args.span.bytes.now), b.1, b.2, b.3, c.args.span.fits) }
 
 pub invariant_of-value_span : goal.invariant_of-value_span
 invariant_of-value_span c =
@@ -63,7 +64,7 @@ invariant_of-value_span c =
     let v = spelled c.args.span.place c.args.span.bytes.now c.args.span.valid in
     let r = member_read c.args.span.bytes.now c.args.span.place c.loop-at.at done v.0 (c.loop-at.invariant.left v.0 v.1) c.in-Ok.name.from c.in-Ok.name.to c.in-Ok.name.end c.in-Ok.ensures.from c.in-Ok.ensures.to c.in-Ok.ensures.end c.in-Ok-places_at.value.from c.in-Ok-places_at.value.to c.in-Ok-places_at.value.end c.in-Ok-places_at.ensures.from c.in-Ok-places_at.ensures.to c.in-Ok-places_at.ensures.end in
     let b = c.in-Ok-places_at.ensures.bounds in
-    record { valid = r.valid; fits = omega (arith, length-take (c.in-Ok-places_at.value.to - c.in-Ok-places_at.value.from) (drop c.in-Ok-places_at.value.from c.args.span.bytes.now), b.1, b.2, b.3, c.args.span.fits) }
+    record { valid = r.valid; utf8 = slice_utf8 c.args.span.bytes.now c.in-Ok-places_at.value.from c.in-Ok-places_at.value.to c.args.span.utf8 (omega (arith, b.2, b.3)) r.valid; fits = omega (arith, length-take (c.in-Ok-places_at.value.to - c.in-Ok-places_at.value.from) (drop c.in-Ok-places_at.value.from c.args.span.bytes.now), b.1, b.2, b.3, c.args.span.fits) }
 
 pub bounds-bytes-value : goal.bounds-bytes-value
 bounds-bytes-value c =
@@ -107,3 +108,9 @@ unreachable-requires-2 c =
     let v = spelled c.args.span.place c.args.span.bytes.now c.args.span.valid in
     let inside = members_within c.args.span.bytes.now c.args.span.place c.loop-at.at (map pair_of c.loop-at.found.items) v.0 (c.loop-at.invariant.left v.0 v.1) in
     omega (arith, inside, c.loop-at-test.false)
+
+pub returns-in_default-keep_pair-clause-refused : goal.returns-in_default-keep_pair-clause-refused
+returns-in_default-keep_pair-clause-refused c = λ v h.
+    let done = map pair_of c.loop-at.found.items in
+    let r = member_read c.args.span.bytes.now c.args.span.place c.loop-at.at done v (c.loop-at.invariant.left v h) c.in-Ok.name.from c.in-Ok.name.to c.in-Ok.name.end c.in-Ok.ensures.from c.in-Ok.ensures.to c.in-Ok.ensures.end c.in-Ok-places_at.value.from c.in-Ok-places_at.value.to c.in-Ok-places_at.value.end c.in-Ok-places_at.ensures.from c.in-Ok-places_at.ensures.to c.in-Ok-places_at.ensures.end in
+    omega (arith, r.some)

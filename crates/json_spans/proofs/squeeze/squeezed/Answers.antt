@@ -1,11 +1,13 @@
-use Rattle.std.proofs.Common.{◌≡◌, ◌∙◌, Result, Ok, Err, IfOk}
+use Rattle.std.proofs.Common.{◌≡◌, sym, subst, rules}
 use Rattle.json_spans.specs.Span.{part_of}
+use Rattle.json_spans.specs.Squeeze.{squeezed}
 use Rattle.json_spans.proofs.Tightness.{is_tight}
+use Rattle.json_spans.proofs.Utf8.{squeezed_utf8}
+use Rattle.std.specs.Prelude.{IsUtf8}
 use Rattle.json_spans.proofs.squeeze.squeezed.Goals as goal
 
-if_ok : {A E : Type 0} (r : Result A E) (P Q : A → Type 0) → ((a : A) → P a → Q a) → IfOk r P → IfOk r Q
-if_ok (Ok a) P Q f h = f a h
-if_ok (Err e) P Q f h = tt
+pub unwrap-requires : goal.unwrap-requires
+unwrap-requires c = c.from_utf8.ensures.succeeds (subst IsUtf8 (sym c.in_ok-out.ensures) (squeezed_utf8 c.args.span.bytes.now c.args.span.utf8))
 
-pub returns-in-Ok-clause-tight : goal.returns-in-Ok-clause-tight
-returns-in-Ok-clause-tight c = if_ok c.of.result _ _ (λ t h. is_tight (part_of c.args.span) t (h ∙ c.in-Ok.ensures.cases.0 ∙ c.as_slice.ensures.value ∙ c.in_ok-out.ensures)) c.of.ensures
+pub returns-clause-tight : goal.returns-clause-tight
+returns-clause-tight c = let bytes : c.from_string.result ≡ squeezed c.args.span.bytes.now = search rules in is_tight (part_of c.args.span) c.from_string.result bytes

@@ -1,9 +1,5 @@
-use Rattle.std.proofs.Common.{◌≡◌, ℕ, List, Result, Ok, Err, IfOk, Some}
-use Rattle.serde_json.specs.Read.{read}
-use Rattle.serde_json.specs.Data.{string}
-use Rattle.json_spans.specs.Parts.{Part}
+use Rattle.std.proofs.Common.{Result, Ok, Err, IfOk}
 use Rattle.json_spans.specs.Span.{part_of}
-use Rattle.json_spans.specs.Characters.{IsMeaning}
 use Rattle.json_spans.proofs.Characters.{is_meaning}
 use Rattle.json_spans.proofs.strings.text.Goals as goal
 

@@ -1,6 +1,8 @@
-use Rattle.std.proofs.Common.{◌≡◌, ◌+◌, ◌-◌, ◌≤◌, ◌<◌, length, take, drop, arith, rules, sym, ap, ◌∙◌, length-take, length-drop}
+use Rattle.std.proofs.Common.{◌-◌, length, take, drop, arith, ap, ◌∙◌, length-take}
 use Rattle.json_spans.specs.Parts.{is_value, part}
 use Rattle.json_spans.proofs.Texts.{found, not_refused, is_value-spelling}
+use Rattle.std.proofs.lemmas.Str.{is_utf8-from_IsUtf8}
+use Rattle.json_spans.proofs.Utf8.{slice_utf8}
 use Rattle.json_spans.proofs.Refusals.{refused_by}
 use Rattle.json_spans.proofs.whole.cut.Goals as goal
 
@@ -8,8 +10,10 @@ pub invariant_of-result : goal.invariant_of-result
 invariant_of-result c =
     let f = found c.args.text.now c.in-Ok-scan.from c.in-Ok-scan.to c.in-Ok-scan.ensures.exact.0 c.in-Ok-scan.ensures.exact.1 in
     let bounds = c.in-Ok-scan.ensures.bounds in
+    let valid = ap is_value f.slice ∙ is_value-spelling f.v f.is.json.is_tree f.is.levels in
     record {
-      valid = ap is_value f.slice ∙ is_value-spelling f.v f.is.json.is_tree f.is.levels;
+      valid = valid;
+      utf8 = slice_utf8 c.args.text.now c.in-Ok-scan.from c.in-Ok-scan.to (is_utf8-from_IsUtf8 _ c.in-Ok.ensures.cases.1) bounds.1 valid;
       fits = omega (arith, length-take (c.in-Ok-scan.to - c.in-Ok-scan.from) (drop c.in-Ok-scan.from c.args.text.now), bounds.2);
     }
 
