@@ -11,6 +11,7 @@ use std::alloc::Global;
 
 mod ends;
 mod lend;
+mod patience;
 mod steps;
 mod turns;
 

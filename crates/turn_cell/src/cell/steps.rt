@@ -6,6 +6,7 @@ ghost use Rattle.turn_cell.specs.Rule.{doing, AllBy};
 ghost use Rattle.turn_cell.specs.Steps.{looked_once, seeing, after, Finds, IsExact, ticket_in, parts_in};
 
 use crate::cell::Spent;
+use crate::cell::patience::Patience;
 use crate::plays::{Draw, LookAtServing, LookAtTicket, Note, Place, Raise, Turns};
 use crate::stands::{Made, Stands};
 use crate::views::{Doing, Start};
@@ -31,16 +32,18 @@ pub(super) fn draw<V: Stands, R: Wait>(
     ensures same { (place.new.table_id ≡ place.old.table_id) × (place.new.id ≡ place.old.id) }
     ensures drawn { MatchResult result (λ t. (t < 2 ^ 62) × (place.old.me.0.view.first ≤ t) × (place.new.me ≡ (doing (Waits t) place.old.me.0.view, place.old.me.1))) (λ s. (s.ticket ≡ max place.old.me.0.view.first (2 ^ 62)) × (place.new.me ≡ (doing Idle (looked_once place.old.me.0.view), place.old.me.1))) }
 {
-    let backoff = Backoff::new();
+    let mut patience = Patience::new();
     for _ in rt.forever() {
         let ticket = top.load::<LookAtTicket>(place, 0);
         if ticket >= LIMIT {
             return Err(Spent { ticket });
         }
-        if top.compare_exchange::<Draw>(place, 0, ticket, ticket + 1) == ticket {
-            return Ok(ticket);
+        if patience.allows(ticket.wrapping_sub(top.peek(1))) {
+            if top.compare_exchange::<Draw>(place, 0, ticket, ticket + 1) == ticket {
+                return Ok(ticket);
+            }
         }
-        backoff.spin();
+        patience.wait(rt);
     }
     unreachable!()
 }
