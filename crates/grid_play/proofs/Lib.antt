@@ -11,3 +11,6 @@ pub mod ReadyLemmas
 pub mod OutcomeLemmas
 pub mod NewLemmas
 pub mod ServedLemmas
+pub mod WrittenLemmas
+pub mod ExactLemmas
+pub mod OneLemmas

@@ -1,9 +1,8 @@
 -- The first node registers.
-use Rattle.std.proofs.Common.{◌≡◌, ℕ, ◌+◌, ◌<◌, ◌≤◌, List, [], ◌∷◌, refl, sym, ◌∙◌, ap, subst, arith}
-use Rattle.std.specs.Prelude.{true, false, Option, None, Some}
+use Rattle.std.proofs.Common.{◌≡◌, ℕ, ◌≤◌, List, [], refl, sym, ◌∙◌, ap, subst, arith}
+use Rattle.std.specs.Prelude.{true, false, Some}
 use Rattle.grid_outside.specs.Memory.{clock_at}
 use Rattle.grid_types.specs.declared.capabilities.Registration.{Registration}
-use Rattle.grid_types.specs.declared.config.HubConfig.{HubConfig}
 use Rattle.grid_types.specs.Calls.{Call, Reply}
 use Rattle.grid_types.specs.Config.{default_config}
 use Rattle.grid_types.specs.HubAnswers.{hub, after_call}

@@ -1,11 +1,8 @@
 -- The outcome of the one request, and its response.
-use Rattle.std.proofs.Common.{◌≡◌, ℕ, ◌<◌, ◌^◌, List, [], ◌∷◌, ◌++◌, refl, sym, ◌∙◌, ap, subst, append-nil, arith}
-use Rattle.std.specs.Prelude.{Bool, true, false, is_some, Option, None, Some, Result, Ok, Err, IfOk}
-use Rattle.std.specs.List.{concat}
+use Rattle.std.proofs.Common.{◌≡◌, ℕ, ◌<◌, ◌^◌, List, [], ◌∷◌, ◌++◌, sym, ◌∙◌, ap, subst, arith}
+use Rattle.std.specs.Prelude.{true, false, is_some, Option, Some, Result, Ok, Err, IfOk}
 use Rattle.std.proofs.lemmas.Bool.{false≢true}
-use Rattle.http_frames.specs.Frames.{Request, closes}
 use Rattle.grid_outside.specs.Memory.{clock_at}
-use Rattle.grid_types.specs.declared.entry.Entry.{Entry}
 use Rattle.grid_types.specs.declared.entry.Change.TheVariants as change
 use Rattle.grid_types.specs.declared.entry.Outcome.{Outcome}
 use Rattle.grid_types.specs.declared.capabilities.Cap.{Cap}
@@ -21,12 +18,11 @@ use Rattle.grid_play.specs.declared.grid.Grid.{Grid}
 use Rattle.grid_play.specs.declared.grid.Turn.TheVariants as turn
 use Rattle.grid_play.specs.LoopNode.{node_caps, node_address, new_node}
 use Rattle.grid_play.specs.Exchange.{are_plain_caps}
-use Rattle.grid_play.specs.Merging.{Merges}
 use Rattle.grid_play.specs.Played.{first_history}
 use Rattle.grid_play.specs.Responses.{outcome_response, error_response}
 use Rattle.grid_play.specs.Runs.{Runs}
 use Rattle.grid_play.specs.Steps.{Step, Called}
-use Rattle.grid_play.specs.Script.{IsNewSession, Script, Start, Rounds, created, refused}
+use Rattle.grid_play.specs.Script.{Script, created, refused}
 use Rattle.grid_play.specs.Grid.{Went, IsSound, IsNew, IsQueued, IsReady, IsYours, Started, Waited, Settles, RespondsSettled, Responds, Refuses, asking, queued_history}
 use Rattle.grid_play.proofs.StepLemmas.{went_more, went_call}
 use Rattle.grid_play.proofs.StartLemmas.{caps_plain}

@@ -1,6 +1,6 @@
 -- With one node and one request, a session that the node starts for a slot that was given is bound.
-use Rattle.std.proofs.Common.{◌≡◌, ℕ, zero, suc, ◌+◌, ◌<◌, ◌≤◌, List, [], ◌∷◌, ◌++◌, refl, sym, ◌∙◌, ap, subst, arith, eq-eqb}
-use Rattle.std.specs.Prelude.{Bool, true, false, cond, not, ◌&&◌, ◌||◌, nat_eq, nat_le, nat_lt, max, Option, None, Some, unwrap_or, replicate, codes, is_some}
+use Rattle.std.proofs.Common.{◌≡◌, ℕ, zero, suc, ◌+◌, List, [], ◌∷◌, ◌++◌, refl, sym, ◌∙◌, ap, subst, arith, eq-eqb}
+use Rattle.std.specs.Prelude.{Bool, true, false, cond, ◌&&◌, ◌||◌, nat_eq, nat_lt, max, Option, None, Some, replicate, codes, is_some}
 use Rattle.std.specs.List.{slice_get}
 use Rattle.std.proofs.lemmas.Bool.Decides.{nat_tests}
 use Rattle.std.proofs.lemmas.Fmt.{decimal_digit}
@@ -11,19 +11,19 @@ use Rattle.grid_types.specs.declared.capabilities.Cap.{Cap}
 use Rattle.grid_types.specs.declared.view.Standing.TheVariants as standing
 use Rattle.grid_types.specs.Calls.{Call, Reply}
 use Rattle.grid_types.specs.Capabilities.{request_bytes}
-use Rattle.grid_types.specs.Choice.{Assignment, chosen}
+use Rattle.grid_types.specs.Choice.{Assignment}
 use Rattle.grid_types.specs.Config.{default_config}
 use Rattle.grid_types.specs.Fit.{fits, matches_there, matches_slot}
 use Rattle.grid_types.specs.History.{after, clock}
 use Rattle.grid_types.specs.Laws.{ChosenFits}
 use Rattle.grid_types.specs.Lists.{or_else, when}
-use Rattle.grid_types.specs.Matching.{matches, meets, agrees, where_wanted, is_any_platform, is_platform_within, same_platform, same_without_case, is_family_name, same_family, is_any_version, is_version_word, is_version_within, version, platform, has_extensions}
-use Rattle.grid_types.specs.Nodes.{is_up, stands_up, stereotypes_of, address_of}
+use Rattle.grid_types.specs.Matching.{matches, meets, agrees, where_wanted, is_any_platform, is_platform_within, same_platform, same_without_case, is_family_name, same_family, is_version_word, version, platform, has_extensions}
+use Rattle.grid_types.specs.Nodes.{is_up, stands_up, stereotypes_of}
 use Rattle.grid_types.specs.HubAnswers.{Answer, hub, after_call, moment, says, makes, bound, reserves, reserved}
-use Rattle.grid_types.specs.Permitted.{wanted_of, reserved_choice, most_bytes}
+use Rattle.grid_types.specs.Permitted.{wanted_of, most_bytes}
 use Rattle.grid_types.specs.Requests.{outcome_of}
-use Rattle.grid_types.specs.Slots.{slot_eq, slot_at}
-use Rattle.grid_types.specs.Tokens.{Ticket, Reservation, reservation_of, ticket_of}
+use Rattle.grid_types.specs.Slots.{slot_at}
+use Rattle.grid_types.specs.Tokens.{Ticket, Reservation, reservation_of}
 use Rattle.grid_play.specs.LoopNode.{node_caps, node_address, first_registration}
 use Rattle.grid_play.specs.Played.{first_history}
 use Rattle.grid_play.specs.Grid.{queued_history}

@@ -1,6 +1,6 @@
 -- A response with a JSON body is one of the responses that are written.
-use Rattle.std.proofs.Common.{◌≡◌, ℕ, List, [], ◌∷◌, ◌++◌, length, refl, sym, ◌∙◌, ap, append_assoc, append-nil}
-use Rattle.std.specs.Prelude.{Bool, true, false, cond, codes, decimal, Option, None, Some, unwrap_or}
+use Rattle.std.proofs.Common.{◌≡◌, ℕ, List, [], ◌++◌, length, ap, append-nil}
+use Rattle.std.specs.Prelude.{Bool, false, cond, codes, decimal, None, Some, unwrap_or}
 use Rattle.std.specs.Borrow.{Bor}
 use Rattle.http.specs.StatusCode.{reason_phrase}
 use Rattle.http_frames.specs.Writing.{response_bytes, has_no_body, field_line, length_line}

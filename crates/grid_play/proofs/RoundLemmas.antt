@@ -1,25 +1,23 @@
 -- What one poll does.
-use Rattle.std.proofs.Common.{◌≡◌, ◌⊎◌, inl, inr, ℕ, ◌<◌, List, [], ◌∷◌, ◌++◌, refl, sym, ◌∙◌, ap, subst}
-use Rattle.std.specs.Prelude.{◌≢◌, Bool, true, false, Option, None, Some}
+use Rattle.std.proofs.Common.{◌≡◌, inl, inr, ℕ, ◌<◌, List, [], ◌∷◌, refl, sym, ◌∙◌, subst}
+use Rattle.std.specs.Prelude.{◌≢◌, true, false, Option, None, Some}
 use Rattle.std.proofs.lemmas.Bool.{false≢true}
 use Rattle.grid_outside.specs.Memory.{clock_at}
 use Rattle.grid_outside.specs.Told.{later_by}
 use Rattle.grid_types.specs.declared.config.HubConfig.{HubConfig}
 use Rattle.grid_types.specs.declared.entry.Entry.{Entry}
 use Rattle.grid_types.specs.declared.entry.Outcome.{Outcome}
-use Rattle.grid_types.specs.declared.capabilities.Cap.{Cap}
 use Rattle.grid_types.specs.Calls.{Call, Reply}
-use Rattle.grid_types.specs.Laws.{is_good_reply}
 use Rattle.grid_types.specs.HubAnswers.{hub, after_call}
 use Rattle.grid_types.specs.Tokens.{Ticket, Reservation, is_good_ticket, is_good_reservation}
 use Rattle.hub_core.specs.HubView.{past, ServesLocally}
 use Rattle.hub_core.specs.Answers.{Answers, may_lack}
-use Rattle.hub_core.specs.Serves.{MayCall, GivesGood}
+use Rattle.hub_core.specs.Serves.{MayCall}
 use Rattle.grid_play.specs.declared.grid.Grid.{Grid}
 use Rattle.grid_play.specs.declared.grid.Turn.TheVariants as turn
-use Rattle.grid_play.specs.Steps.{Step, Called, Exchanged, Paused}
-use Rattle.grid_play.specs.Script.{Start, Rounds, not_yet, lacks, yours, settled}
-use Rattle.grid_play.specs.Grid.{Went, IsAgain, IsYours, Waited}
+use Rattle.grid_play.specs.Steps.{Step, Called, Paused}
+use Rattle.grid_play.specs.Script.{Rounds, not_yet, lacks, yours, settled}
+use Rattle.grid_play.specs.Grid.{IsAgain, Waited}
 use Rattle.grid_play.proofs.NameLemmas.{and_both}
 use Rattle.grid_play.proofs.StepLemmas.{went_more, went_call, went_pause}
 use Rattle.grid_play.proofs.PollLemmas.{not_yet_says, yours_says, lack_says}

@@ -1,8 +1,7 @@
 -- The conversation of an input that is empty, and of one request.
-use Rattle.std.proofs.Common.{◌≡◌, ◌⊎◌, inl, inr, ℕ, ◌≤◌, ◌<◌, List, [], ◌∷◌, ◌++◌, length, refl, sym, ◌∙◌, ap, subst, append-nil, arith}
-use Rattle.std.specs.Prelude.{◌≢◌, Bool, true, false, ◌&&◌, ◌||◌, ◌==◌, nat_eq, nat_le, Option, None, Some, Result, Ok, Err, codes, decimal, replicate, MatchOption}
-use Rattle.std.specs.List.{list_any, concat}
-use Rattle.std.proofs.lemmas.Bool.{false≢true}
+use Rattle.std.proofs.Common.{◌≡◌, inl, inr, ℕ, ◌≤◌, ◌<◌, List, [], ◌∷◌, ◌++◌, length, refl, sym, ◌∙◌, ap, subst, append-nil, arith}
+use Rattle.std.specs.Prelude.{Bool, true, false, ◌&&◌, ◌||◌, ◌==◌, nat_le, Option, None, Some, Result, Ok, Err, codes, decimal, replicate, MatchOption}
+use Rattle.std.specs.List.{list_any}
 use Rattle.std.proofs.lemmas.List.{length-replicate}
 use Rattle.std.proofs.lemmas.Bool.Decides.{nat_tests}
 use Rattle.httparse.specs.Grammar.{RequestHead}
@@ -22,16 +21,14 @@ use Rattle.grid_outside.specs.Counts.{Rose}
 use Rattle.grid_outside.specs.Told.{Gains}
 use Rattle.grid_types.specs.Calls.{Call}
 use Rattle.grid_types.specs.Config.{default_config}
-use Rattle.grid_types.specs.HubAnswers.{after_call}
 use Rattle.grid_types.specs.Laws.{CallsStayLegal, LegalHistoriesAreSafe}
 use Rattle.grid_types.specs.Legal.{legal}
 use Rattle.grid_types.specs.Permitted.{is_well_sized}
 use Rattle.grid_play.specs.LoopNode.{first_registration, new_node, node_caps}
 use Rattle.grid_play.specs.Merging.{Merges, by_browser, browser_body}
-use Rattle.grid_play.specs.Steps.{Step}
 use Rattle.grid_play.specs.Runs.{Runs, Exchanges, Still, NoneLacks}
 use Rattle.grid_play.specs.Played.{Played, IsBuilt, first_history}
-use Rattle.grid_play.specs.Grid.{IsSound, asking}
+use Rattle.grid_play.specs.Grid.{asking}
 use Rattle.grid_play.specs.Served.{IsBuiltFor, Answered, Whole, WholeWithMemory, CutShort, Served, Ran}
 use Rattle.grid_play.proofs.NameLemmas.{and_both}
 

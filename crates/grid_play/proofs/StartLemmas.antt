@@ -1,6 +1,6 @@
 -- A start at the node.
-use Rattle.std.proofs.Common.{◌≡◌, ℕ, ◌+◌, ◌<◌, ◌≤◌, List, [], ◌∷◌, ◌++◌, refl, sym, ◌∙◌, ap, subst, arith}
-use Rattle.std.specs.Prelude.{◌≢◌, Bool, true, false, not, ◌==◌, ◌&&◌, nat_le, Option, None, Some}
+use Rattle.std.proofs.Common.{◌≡◌, ℕ, ◌+◌, List, [], ◌∷◌, refl, sym, ◌∙◌, subst, arith}
+use Rattle.std.specs.Prelude.{true, Some}
 use Rattle.std.specs.List.{list_all}
 use Rattle.std.specs.Char.{is_ascii_alphabetic}
 use Rattle.std.proofs.lemmas.Bool.Decides.{nat_tests}
@@ -9,15 +9,15 @@ use Rattle.grid_types.specs.declared.capabilities.Cap.{Cap}
 use Rattle.grid_types.specs.Calls.{Call, Reply}
 use Rattle.grid_types.specs.Names.{is_session_name}
 use Rattle.grid_types.specs.HubAnswers.{after_call}
-use Rattle.grid_types.specs.Tokens.{Ticket, Reservation}
+use Rattle.grid_types.specs.Tokens.{Reservation}
 use Rattle.hub_core.specs.HubView.{past, ServesLocally}
 use Rattle.grid_play.specs.declared.grid.Grid.{Grid}
 use Rattle.grid_play.specs.PlayWords.{is_browser}
 use Rattle.grid_play.specs.Exchange.{is_plain, is_plain_byte, are_plain_caps, start_ask, replied}
-use Rattle.grid_play.specs.LoopNode.{Node, node_caps, session_id, session_reply, Gives, starts}
-use Rattle.grid_play.specs.Steps.{Step, Called, Exchanged}
-use Rattle.grid_play.specs.Script.{Start, bound}
-use Rattle.grid_play.specs.Grid.{Went, IsReady, Started}
+use Rattle.grid_play.specs.LoopNode.{node_caps, session_id, session_reply, Gives, starts}
+use Rattle.grid_play.specs.Steps.{Called, Exchanged}
+use Rattle.grid_play.specs.Script.{bound}
+use Rattle.grid_play.specs.Grid.{IsReady, Started}
 use Rattle.grid_play.proofs.NameLemmas.{and_both}
 use Rattle.grid_play.proofs.SessionLemmas.{session_id_named}
 use Rattle.grid_play.proofs.StepLemmas.{went_more, went_call, went_exchange}

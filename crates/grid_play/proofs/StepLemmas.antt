@@ -1,6 +1,6 @@
 -- Steps that follow steps, and what one step says.
-use Rattle.std.proofs.Common.{◌≡◌, ◌⊎◌, inl, inr, ℕ, List, [], ◌∷◌, ◌++◌, refl, sym, ◌∙◌, ap, subst}
-use Rattle.std.specs.Prelude.{◌≢◌, Bool, true, false, Option, None, Some}
+use Rattle.std.proofs.Common.{◌≡◌, ℕ, List, [], ◌∷◌, ◌++◌, refl, sym, ◌∙◌, ap, subst}
+use Rattle.std.specs.Prelude.{◌≢◌, Bool, true, false, Option, None}
 use Rattle.std.proofs.lemmas.Bool.{false≢true}
 use Rattle.grid_outside.specs.Memory.{clock_at}
 use Rattle.grid_outside.specs.Told.{later_by}
@@ -8,10 +8,9 @@ use Rattle.grid_types.specs.declared.config.HubConfig.{HubConfig}
 use Rattle.grid_types.specs.declared.entry.Entry.{Entry}
 use Rattle.grid_types.specs.Calls.{Call, Reply}
 use Rattle.hub_core.specs.HubView.{HubView, past, ServesLocally}
-use Rattle.hub_core.specs.Answers.{Answers}
 use Rattle.grid_play.specs.declared.grid.Grid.{Grid}
 use Rattle.grid_play.specs.Exchange.{Ask, Came}
-use Rattle.grid_play.specs.LoopNode.{Node, Gives}
+use Rattle.grid_play.specs.LoopNode.{Gives}
 use Rattle.grid_play.specs.Steps.{Step, Called, Exchanged, Paused}
 use Rattle.grid_play.specs.Runs.{Runs, Exchanges, Still, NoneLacks}
 use Rattle.grid_play.specs.Grid.{Went, IsSound}

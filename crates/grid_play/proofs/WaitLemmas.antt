@@ -1,19 +1,18 @@
 -- Polls one after the other.
-use Rattle.std.proofs.Common.{◌≡◌, ℕ, ◌+◌, ◌-◌, ◌<◌, ◌^◌, List, [], ◌∷◌, ◌++◌, refl, sym, ◌∙◌, ap, subst, append_assoc, arith}
+use Rattle.std.proofs.Common.{◌≡◌, ◌-◌, ◌<◌, ◌^◌, List, [], ◌++◌, refl, sym, ◌∙◌, subst, append_assoc, arith}
 use Rattle.grid_outside.specs.Memory.{clock_at}
 use Rattle.grid_types.specs.declared.entry.Outcome.{Outcome}
-use Rattle.grid_types.specs.declared.capabilities.Cap.{Cap}
 use Rattle.grid_types.specs.Calls.{Call, Reply}
 use Rattle.grid_types.specs.HubAnswers.{hub, after_call}
-use Rattle.grid_types.specs.Tokens.{Ticket, Reservation}
+use Rattle.grid_types.specs.Tokens.{Ticket}
 use Rattle.hub_core.specs.HubView.{past}
 use Rattle.hub_core.specs.Serves.{MayCall}
 use Rattle.grid_play.specs.declared.grid.Grid.{Grid}
 use Rattle.grid_play.specs.declared.grid.Turn.{Turn}
 use Rattle.grid_play.specs.declared.grid.Turn.TheVariants as turn
 use Rattle.grid_play.specs.Steps.{Step}
-use Rattle.grid_play.specs.Script.{Start, Rounds}
-use Rattle.grid_play.specs.Grid.{Went, IsAgain, IsYours, Leads, Waited}
+use Rattle.grid_play.specs.Script.{Rounds}
+use Rattle.grid_play.specs.Grid.{Went, IsAgain, Waited}
 use Rattle.grid_play.proofs.StepLemmas.{went_none, went_more}
 
 -- the request t is waiting, with the ticket u

@@ -1,5 +1,5 @@
 -- What the calls of the hub with its node and its clock do, step by step.
-use Rattle.std.specs.Prelude.{◌≡◌, ◌≢◌, ◌⊎◌, ℕ, ◌<◌, ◌^◌, Bool, true, false, is_some, List, [], ◌∷◌, ◌++◌, Option, None, Some, codes}
+use Rattle.std.specs.Prelude.{◌≡◌, ℕ, ◌<◌, ◌^◌, true, false, List, [], ◌∷◌, ◌++◌, Option, Some, codes}
 use Rattle.std.specs.List.{concat}
 use Rattle.http_frames.specs.Frames.{Request, closes}
 use Rattle.grid_outside.specs.Memory.{clock_at}
@@ -13,7 +13,6 @@ use Rattle.grid_types.specs.Calls.{Call, Reply}
 use Rattle.grid_types.specs.Config.{default_config}
 use Rattle.grid_types.specs.Legal.{legal}
 use Rattle.grid_types.specs.HubAnswers.{hub, after_call, moment}
-use Rattle.grid_types.specs.Requests.{outcome_of}
 use Rattle.grid_types.specs.Safe.{IsSafe}
 use Rattle.grid_types.specs.Tokens.{Ticket, Reservation, is_good_ticket, ticket_of}
 use Rattle.hub_core.specs.HubView.{past}
@@ -26,7 +25,7 @@ use Rattle.grid_play.specs.declared.grid.Turn.TheVariants as turn
 use Rattle.grid_play.specs.PlayWords.{is_browser}
 use Rattle.grid_play.specs.Merging.{Merges, text_cap}
 use Rattle.grid_play.specs.Exchange.{are_plain_caps}
-use Rattle.grid_play.specs.LoopNode.{Node, new_node, node_address, node_caps, first_registration, Gives}
+use Rattle.grid_play.specs.LoopNode.{new_node, node_address, node_caps, Gives}
 use Rattle.wd_bodies.specs.declared.code.ErrorCode.{ErrorCode}
 use Rattle.grid_play.specs.Responses.{outcome_response, error_response, enqueue_error}
 use Rattle.grid_play.specs.Steps.{Step}

@@ -8,6 +8,7 @@ pub mod Script
 pub mod Conversation
 pub mod Runs
 pub mod Played
+pub mod OneConversation
 pub mod Streams
 pub mod Grid
 pub mod Served

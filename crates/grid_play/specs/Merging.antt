@@ -3,7 +3,6 @@
 use Rattle.std.specs.Prelude.{◌≡◌, ℕ, true, List, [], ◌∷◌, ◌++◌, codes}
 use Rattle.grid_types.specs.declared.capabilities.Cap.{Cap}
 use Rattle.grid_types.specs.declared.capabilities.CapValue.TheVariants as value
-use Rattle.grid_types.specs.Capabilities.{json_string}
 use Rattle.grid_play.specs.PlayWords.{is_browser}
 
 -- a member whose value is a text

@@ -1,11 +1,10 @@
 -- What is promised of a connection that was served from standing still: a hub that is empty but for the first node, this
 -- node, and a clock at 0.
-use Rattle.std.specs.Prelude.{◌≡◌, ◌≢◌, ◌⊎◌, ℕ, ◌≤◌, true, List, [], ◌∷◌, ◌++◌, length, Option}
+use Rattle.std.specs.Prelude.{◌≡◌, ◌≢◌, ℕ, ◌≤◌, true, List, [], length, Option}
 use Rattle.httparse.specs.Grammar.{RequestHead}
 use Rattle.http_frames.specs.declared.frames.TheConstants.{LIMITS}
 use Rattle.http_frames.specs.Frames.{End}
 use Rattle.http_frames.specs.Plain.{IsPlain}
-use Rattle.grid_outside.specs.Counts.{Rose}
 use Rattle.grid_outside.specs.Told.{Gains}
 use Rattle.grid_types.specs.declared.capabilities.Cap.{Cap}
 use Rattle.grid_types.specs.declared.entry.Entry.{Entry}

@@ -2,6 +2,7 @@
 #![tactic(auto)]
 
 mod grid;
+mod laws;
 mod loop_node;
 mod merging;
 mod responses;
@@ -9,6 +10,7 @@ mod streams;
 mod top;
 mod words;
 
+pub use laws::one_conversation;
 pub use top::run;
 
 #[cfg(test)]

@@ -108,7 +108,8 @@ fn serve<S: Source, K: Sink>(
 
 /// Serves one connection with the input and the output, over a hub with the node of the words. The statuses:
 /// 0 served to its end; 1 the input is of a form that is not built, and nothing was written; 2 the words do not fit, and
-/// nothing was read or written; 3 a read failed; 4 a write failed; 5 there was no memory.
+/// nothing was read or written; 3 a read failed; 4 a write failed; 5 there was no memory. With status 0 what was done and
+/// written is a function of the words and of the bytes that were read: `one_conversation`.
 pub fn run<S: Source, K: Sink>(alloc: Global, words: &[Text], input: &mut S, output: &mut K) -> u8
     ensures words { (result ≡ 2) ↔ ¬ (Fit words.now) }
     ensures untouched { result ≡ 2 → (input.new ≡ input.old) × (output.new ≡ output.old) }

@@ -1,4 +1,4 @@
-use Rattle.std.proofs.Common.{◌≡◌, refl, ◌∙◌, ap, false}
+use Rattle.std.proofs.Common.{refl, ◌∙◌, ap, false}
 use Rattle.grid_types.specs.Calls.{Reply}
 use Rattle.wd_bodies.specs.declared.code.ErrorCode.TheVariants as code
 use Rattle.grid_play.specs.Responses.{error_response}

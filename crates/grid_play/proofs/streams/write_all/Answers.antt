@@ -1,4 +1,4 @@
-use Rattle.std.proofs.Common.{◌≡◌, ℕ, ◌+◌, ◌≤◌, List, ◌++◌, length, take, drop, arith, refl, sym, subst, take-append-drop, length-drop}
+use Rattle.std.proofs.Common.{take, drop, arith, sym, subst, take-append-drop}
 use Rattle.std.proofs.lemmas.Grind.{common_steps}
 use Rattle.grid_outside.specs.Told.{Gains}
 use Rattle.grid_play.proofs.StreamLemmas.{gains_next}

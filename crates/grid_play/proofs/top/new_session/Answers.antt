@@ -1,4 +1,4 @@
-use Rattle.std.proofs.Common.{◌≡◌, ℕ, sym, ◌∙◌}
+use Rattle.std.proofs.Common.{sym, ◌∙◌}
 use Rattle.std.specs.Cmp.Lexicographic.{same_text, other_text}
 use Rattle.grid_play.proofs.ServedLemmas.{built_by, not_built}
 use Rattle.grid_play.proofs.top.new_session.Goals as goal

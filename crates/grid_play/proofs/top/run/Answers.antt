@@ -1,4 +1,3 @@
-use Rattle.std.proofs.Common.{◌≡◌, refl}
 use Rattle.grid_play.proofs.ServedLemmas.{one_play, ran_ok, ran_lacking, ran_failed}
 use Rattle.grid_play.proofs.top.run.Goals as goal
 

@@ -1,6 +1,5 @@
-use Rattle.std.proofs.Common.{◌≡◌, refl, sym, ◌∙◌, [], ap, subst, length, arith}
+use Rattle.std.proofs.Common.{◌≡◌, refl, [], ap, subst, length, arith}
 use Rattle.std.proofs.lemmas.Bool.Decides.{nat_tests}
-use Rattle.std.proofs.lemmas.Grind.{common_steps}
 use Rattle.grid_outside.specs.Told.{Gains}
 use Rattle.grid_play.specs.Served.{IsBuiltFor}
 use Rattle.grid_play.specs.Streams.{Front}

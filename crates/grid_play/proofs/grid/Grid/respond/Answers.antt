@@ -1,4 +1,4 @@
-use Rattle.std.proofs.Common.{◌≡◌, refl, ◌∙◌, subst}
+use Rattle.std.proofs.Common.{refl, ◌∙◌, subst}
 use Rattle.std.specs.Prelude.{Some}
 use Rattle.grid_types.specs.Calls.{Call, Reply}
 use Rattle.hub_core.specs.HubView.{ServesLocally}

@@ -1,4 +1,4 @@
-use Rattle.std.proofs.Common.{◌≡◌, refl, sym, ◌∙◌, ap}
+use Rattle.std.proofs.Common.{refl, ◌∙◌, ap}
 use Rattle.grid_outside.specs.Told.{later_by}
 use Rattle.grid_play.proofs.RoundLemmas.{settled_round, yours_round, not_yet_round, lacks_round}
 use Rattle.grid_play.proofs.grid.Grid.round.Goals as goal

@@ -1,4 +1,4 @@
-use Rattle.std.proofs.Common.{◌≡◌, refl, sym, ◌∙◌}
+use Rattle.std.proofs.Common.{refl, ◌∙◌}
 use Rattle.grid_play.proofs.StartLemmas.{started}
 use Rattle.grid_play.proofs.grid.Grid.start.Goals as goal
 use Rattle.grid_play.proofs.grid.Grid.start.Goals.{in-Bound, in-Memory}
