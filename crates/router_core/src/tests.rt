@@ -1,4 +1,4 @@
-use crate::{RouteFault, Routed, route};
+use crate::{RouteFault, Routed, node_number, route};
 use std::test::Fail;
 
 // The table of paths and methods, and what comes before and behind a path.
@@ -64,4 +64,13 @@ fn requests_have_their_routes(rt: HostRuntime) -> Result<(), Fail> {
         Err(RouteFault::UnknownCommand)
     );
     Ok(())
+}
+
+#[test]
+fn ids_of_nodes_are_numbers(rt: HostRuntime) {
+    assert_eq!(rt; node_number(b"7"), Some(7));
+    assert_eq!(rt; node_number(b"4294967295"), Some(u32::MAX));
+    for id in ["", "07", "+7", "-7", "7 ", "0x7", "seven", "4294967296"] {
+        assert_eq!(rt; node_number(id.as_bytes()), None, "{id}");
+    }
 }
