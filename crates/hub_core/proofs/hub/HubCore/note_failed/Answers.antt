@@ -1,0 +1,8 @@
+use Rattle.std.proofs.Common.{refl}
+use Rattle.hub_core.proofs.NoteLemmas.{given, noted, noted-kept, nodes-stay, sessions-stay}
+use Rattle.hub_core.proofs.hub.HubCore.note_failed.Goals as goal
+
+pub returns : goal.returns
+returns c = noted-kept _ _ _ _ _ (noted _ _ _ _ refl
+    (record { nodes = nodes-stay _ _ _ refl; slots = given (rw c.copied-2.ensures at c.failed-2.ensures); requests = given (rw c.copied.ensures at c.failed.ensures _); sessions = sessions-stay _ _ _ refl })
+    (record { nodes = λ H e l. e; requests = λ H e l. e; clock = c.raised-self.ensures })) c.forget_unlisted.ensures
