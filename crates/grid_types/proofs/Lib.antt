@@ -25,3 +25,5 @@ pub mod LeastLemmas
 pub mod BindingLemmas
 pub mod AskedLemmas
 pub mod FreeSlotLemmas
+pub mod HeldCountLemmas
+pub mod SweepLemmas

@@ -6,6 +6,7 @@ mod capabilities;
 mod config;
 mod entry;
 mod laws;
+mod limits;
 mod names;
 mod text;
 mod view;
@@ -18,6 +19,7 @@ pub use laws::{
     calls_give_good_tokens, calls_stay_legal, chosen_is_first, legal_is_safe, live_is_running,
     map_finds_live, numbered_one_by_one, one_more_entry, tokens_stay_good, tokens_tell_the_same,
 };
+pub use limits::{LEAST_QUEUE_TIME_MS, MOST_DOWN_MS, MOST_DRAIN_AFTER, MOST_QUEUE_TIME_MS};
 pub use names::{Moment, NodeAddress, NodeNo, ReqNo, SessionId, SlotId, Words};
 pub use text::{Bytes, NoMemory, Text};
 pub use view::{NodeView, NodeViews, SlotState, SlotViews, Standing, View, WaitView, WaitViews};
