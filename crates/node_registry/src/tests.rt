@@ -13,6 +13,7 @@ fn nodes_come_and_go(rt: HostRuntime) -> Result<(), Fail> {
             address,
             max_sessions: 1,
             groups: Groups::new(rt.alloc()),
+            drain_after: (node == 1).then_some(2),
         };
         table
             .registered(node, &registration, Moment(10))
