@@ -1,8 +1,7 @@
 -- What one more entry does to what the table keeps of a node.
-use Rattle.std.proofs.Common.{◌≡◌, ℕ, ◌+◌, ◌-◌, ◌^◌, ◌≤◌, Bool, true, false, cond, List, ◌∷◌, refl, sym, ap, ◌∙◌, arith}
+use Rattle.std.proofs.Common.{◌≡◌, ℕ, ◌+◌, Bool, true, false, cond, List, ◌∷◌, refl, ap, ◌∙◌, arith}
 use Rattle.std.specs.Prelude.{Option, None, Some, nat_eq, option_map, min, unwrap_or}
 use Rattle.grid_types.specs.declared.entry.Entry.{Entry}
-use Rattle.grid_types.specs.declared.entry.Change.{Change}
 use Rattle.grid_types.specs.declared.entry.Change.TheVariants as change
 use Rattle.grid_types.specs.declared.names.SlotId.{SlotId}
 use Rattle.grid_types.specs.declared.names.Moment.{Moment}
@@ -10,12 +9,10 @@ use Rattle.grid_types.specs.declared.view.Standing.{Standing}
 use Rattle.grid_types.specs.declared.view.Standing.TheVariants as standing
 use Rattle.grid_types.specs.declared.capabilities.Cap.{Cap}
 use Rattle.grid_types.specs.declared.capabilities.Registration.{Registration}
-use Rattle.grid_types.specs.declared.config.HubConfig.{HubConfig}
 use Rattle.grid_types.specs.Nodes.{registration_of, base_of, is_suspected, bound_count, beat_of}
-use Rattle.grid_types.specs.Legal.{legal}
 use Rattle.node_registry.specs.declared.node_table.NodeRow.{NodeRow}
 use Rattle.grid_types.specs.Tables.{entry}
-use Rattle.node_registry.specs.Table.{row_of, row_with, most_bound}
+use Rattle.node_registry.specs.Table.{row_of, most_bound}
 
 abbrev pub with_beat : Moment → NodeRow → NodeRow
 with_beat at row = record { registration = row.registration; base = row.base; suspected = false; bound = row.bound; beat = at }

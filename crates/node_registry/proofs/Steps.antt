@@ -9,7 +9,6 @@ use Rattle.grid_types.specs.declared.entry.Change.{Change}
 use Rattle.grid_types.specs.declared.entry.Change.TheVariants as change
 use Rattle.grid_types.specs.declared.names.SlotId.{SlotId}
 use Rattle.grid_types.specs.declared.names.Moment.{Moment}
-use Rattle.grid_types.specs.declared.view.Standing.TheVariants as standing
 use Rattle.grid_types.specs.declared.capabilities.Registration.{Registration}
 use Rattle.grid_types.specs.declared.config.HubConfig.{HubConfig}
 use Rattle.grid_types.specs.History.{nodes}
