@@ -2,6 +2,7 @@
 //! what each fact about it is, which entries may follow, and what the hub of one thread answers.
 #![tactic(auto)]
 
+mod bytes;
 mod capabilities;
 mod config;
 mod entry;
@@ -13,6 +14,7 @@ mod text;
 mod view;
 mod worked;
 
+pub use bytes::request_bytes;
 pub use capabilities::{Cap, CapValue, Caps, Choices, Groups, Registration, SlotGroup};
 pub use config::HubConfig;
 pub use entry::{Change, EndCause, Entry, FailWhy, Found, Outcome};

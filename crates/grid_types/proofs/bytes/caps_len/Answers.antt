@@ -1,7 +1,7 @@
 use Rattle.std.proofs.Common.{◌<◌, length, arith}
 use Rattle.std.proofs.lemmas.Grind.{common_steps}
-use Rattle.hub_twin.proofs.ByteLemmas.{caps_length}
-use Rattle.hub_twin.proofs.bytes.caps_len.Goals as goal
+use Rattle.grid_types.proofs.ByteLemmas.{caps_length}
+use Rattle.grid_types.proofs.bytes.caps_len.Goals as goal
 
 pub returns : goal.returns
 returns c =
