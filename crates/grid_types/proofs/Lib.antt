@@ -25,3 +25,6 @@ pub mod LeastLemmas
 pub mod BindingLemmas
 pub mod AskedLemmas
 pub mod FreeSlotLemmas
+pub mod HeldCountLemmas
+pub mod SweepLemmas
+pub mod DigitLemmas
