@@ -3,14 +3,17 @@ ghost use Rattle.std.specs.List.{list_any, slice_get};
 ghost use Rattle.grid_types.specs.History.{history_of};
 ghost use Rattle.grid_types.specs.Matching.{matches, meets};
 ghost use Rattle.grid_types.specs.Nodes.{stereotypes, stereotypes_of};
-ghost use Rattle.grid_types.specs.Fit.{matches_slot, fits, serves};
+ghost use Rattle.grid_types.specs.Fit.{matches_slot, fits, serves, has_sessions_left};
 ghost use Rattle.grid_types.specs.Permitted.{is_supported, is_last, wanted_of};
 ghost use Rattle.hub_twin.specs.Sizes.{HasSlotNumbers};
 
-use crate::nodes::{is_registered, is_up, max_of, node_told, registration_of};
+use crate::nodes::{
+    bound_count, drain_after_of, is_base_up, is_registered, is_up, max_of, node_told,
+    registration_of,
+};
 use crate::outcomes::is_settled;
 use crate::requests::{choice_of, choices_of, deadline_of, is_barred, is_waiting, reserved_choice};
-use crate::slots::{is_free, load};
+use crate::slots::{held_count, is_free, load};
 use crate::walk::{Lists, any_listed};
 use grid_types::{Caps, Change, Entry, Moment, NodeNo, ReqNo, SlotGroup, SlotId};
 use slot_match::Steps;
@@ -70,6 +73,18 @@ fn matches_slot(journal: &[Entry], request: ReqNo, choice: u16, slot: SlotId) ->
     }
 }
 
+/// The sessions that were bound on the node and its held slots are together fewer than it drains after.
+fn has_sessions_left(journal: &[Entry], node: NodeNo) -> bool
+    requires sized { HasSlotNumbers (history_of journal.now) }
+    ensures { result ≡ has_sessions_left (history_of journal.now) node }
+{
+    let Some(limit) = drain_after_of(journal, node) else {
+        return true;
+    };
+    let bound = bound_count(journal, node) as u64;
+    bound.saturating_add(u64::from(held_count(journal, node))) < u64::from(limit)
+}
+
 /// The slot may be given to the choice of the request at the moment.
 #[tactic(auto, unfolding(grid_types::specs::Fit::fits))]
 pub fn fits(journal: &[Entry], request: ReqNo, choice: u16, slot: SlotId, at: Moment) -> bool
@@ -82,6 +97,7 @@ pub fn fits(journal: &[Entry], request: ReqNo, choice: u16, slot: SlotId, at: Mo
         && is_up(journal, slot.node)
         && !is_barred(journal, request, slot.node)
         && load(journal, slot.node) < u32::from(max_of(journal, slot.node))
+        && has_sessions_left(journal, slot.node)
         && matches_slot(journal, request, choice, slot)
 }
 
@@ -166,14 +182,14 @@ impl Lists for Alternatives<'_> {
     }
 
     fn passes(&self, node: NodeNo) -> bool {
-        is_up(self.journal, node)
+        is_base_up(self.journal, node)
             && !is_barred(self.journal, self.request, node)
             && node != self.slot.node
             && serves(self.journal, node, choices_of(self.journal, self.request))
     }
 }
 
-/// A failed start on the slot is the request's last: it is not settled, and no other node that is up and not barred
+/// A failed start on the slot is the request's last: it is not settled, and no other node of base Up that is not barred
 /// has a slot that matches a choice.
 #[tactic(auto, unfolding(grid_types::specs::Permitted::is_last))]
 pub fn is_last(journal: &[Entry], request: ReqNo, slot: SlotId) -> bool

@@ -1,17 +1,17 @@
-ghost use Rattle.std.specs.Prelude.{◌≡◌, length, nat_lt};
+ghost use Rattle.std.specs.Prelude.{◌≡◌, nat_lt};
 ghost use Rattle.std.specs.List.{slice_get};
 ghost use Rattle.grid_types.specs.Lists.{least};
 ghost use Rattle.grid_types.specs.History.{history_of};
 ghost use Rattle.grid_types.specs.Slots.{listed};
 ghost use Rattle.grid_types.specs.Requests.{waiting_requests};
-ghost use Rattle.grid_types.specs.HubAnswers.{lapsed_nodes, overdue_requests, drained_nodes, idle_bindings};
+ghost use Rattle.grid_types.specs.HubAnswers.{lapsed_nodes, silent_nodes, overdue_requests, drained_nodes, idle_bindings};
 ghost use Rattle.hub_twin.specs.Sizes.{HasSlotNumbers};
 
-use crate::nodes::{beat_of, is_draining, is_registered, node_told};
+use crate::nodes::{beat_of, is_draining, is_registered, is_suspect, node_told};
 use crate::requests::{deadline_of, is_unsettled, is_waiting, request_told};
 use crate::sessions::{active, is_live};
 use crate::slots::{ListedNodes, has_slot_in_use};
-use crate::walk::{Lists, count_listed, least_listed, nth_listed};
+use crate::walk::{Lists, least_listed, nth_listed};
 use grid_types::{Change, Entry, HubConfig, Moment, NodeNo, ReqNo};
 
 #[derive(Clone, Copy)]
@@ -30,7 +30,7 @@ impl Lists for LapsedNodes<'_> {
 
     ghost told = { λ _ c. node_told c };
 
-    ghost passes = { λ s n. is_registered (history_of s.journal.now) n && nat_le s.config.now.lapse_ms (s.at - beat_of (history_of s.journal.now) n) };
+    ghost passes = { λ s n. is_registered (history_of s.journal.now) n && nat_le s.config.now.down_ms (s.at - beat_of (history_of s.journal.now) n) };
 
     fn told(&self, change: &Change) -> Option<NodeNo> {
         node_told(change)
@@ -38,22 +38,8 @@ impl Lists for LapsedNodes<'_> {
 
     fn passes(&self, node: NodeNo) -> bool {
         is_registered(self.journal, node)
-            && self.config.lapse_ms <= self.at.saturating_sub(beat_of(self.journal, node).0)
+            && self.config.down_ms <= self.at.saturating_sub(beat_of(self.journal, node).0)
     }
-}
-
-/// How many nodes have lapsed at the moment.
-pub fn lapsed_count(config: &HubConfig, journal: &[Entry], at: Moment) -> usize
-    ensures { result ≡ length (lapsed_nodes config.now (history_of journal.now) at.0) }
-{
-    count_listed(
-        journal,
-        &LapsedNodes {
-            config,
-            journal,
-            at: at.0,
-        },
-    )
 }
 
 /// The lapsed node at this place, from 0.
@@ -68,6 +54,56 @@ pub fn lapsed_node(
     nth_listed(
         journal,
         &LapsedNodes {
+            config,
+            journal,
+            at: at.0,
+        },
+        place,
+    )
+}
+
+#[derive(Clone, Copy)]
+struct SilentNodes<'a> {
+    config: &'a HubConfig,
+    journal: &'a [Entry],
+    at: u64,
+}
+
+impl Lists for SilentNodes<'_> {
+    ghost use Rattle.std.specs.Prelude.{◌-◌, ◌&&◌, not, nat_le};
+    ghost use Rattle.grid_types.specs.History.{node_told, history_of};
+    ghost use Rattle.grid_types.specs.Nodes.{is_registered, is_suspect, beat_of};
+
+    type No = NodeNo;
+
+    ghost told = { λ _ c. node_told c };
+
+    ghost passes = { λ s n. is_registered (history_of s.journal.now) n && not (is_suspect (history_of s.journal.now) n)
+        && nat_le s.config.now.lapse_ms (s.at - beat_of (history_of s.journal.now) n) };
+
+    fn told(&self, change: &Change) -> Option<NodeNo> {
+        node_told(change)
+    }
+
+    fn passes(&self, node: NodeNo) -> bool {
+        is_registered(self.journal, node)
+            && !is_suspect(self.journal, node)
+            && self.config.lapse_ms <= self.at.saturating_sub(beat_of(self.journal, node).0)
+    }
+}
+
+/// The node at this place, from 0, among those that are silent at the moment and not suspect yet.
+pub fn silent_node(
+    config: &HubConfig,
+    journal: &[Entry],
+    at: Moment,
+    place: usize,
+) -> Option<NodeNo>
+    ensures { result ≡ slice_get (silent_nodes config.now (history_of journal.now) at.0) place }
+{
+    nth_listed(
+        journal,
+        &SilentNodes {
             config,
             journal,
             at: at.0,
@@ -100,14 +136,6 @@ impl Lists for OverdueRequests<'_> {
     fn passes(&self, request: ReqNo) -> bool {
         is_unsettled(self.journal, request) && deadline_of(self.journal, request).0 <= self.at
     }
-}
-
-/// How many requests that wait or hold a slot are overdue at the moment.
-#[tactic(auto, using(crate::proofs::WalkLemmas::filter_twice))]
-pub fn overdue_count(journal: &[Entry], at: Moment) -> usize
-    ensures { result ≡ length (overdue_requests (history_of journal.now) at.0) }
-{
-    count_listed(journal, &OverdueRequests { journal, at: at.0 })
 }
 
 /// The overdue request at this place, from 0.
@@ -143,14 +171,6 @@ impl Lists for DrainedNodes<'_> {
     fn passes(&self, node: NodeNo) -> bool {
         is_draining(self.journal, node) && !has_slot_in_use(self.journal, node)
     }
-}
-
-/// How many draining nodes have no slot in use.
-pub fn drained_count(journal: &[Entry]) -> usize
-    requires sized { HasSlotNumbers (history_of journal.now) }
-    ensures { result ≡ length (drained_nodes (history_of journal.now)) }
-{
-    count_listed(journal, &DrainedNodes { journal })
 }
 
 /// The draining node without a slot in use at this place, from 0.
@@ -189,13 +209,6 @@ impl Lists for WaitingRequests<'_> {
     fn passes(&self, request: ReqNo) -> bool {
         is_waiting(self.0, request)
     }
-}
-
-/// How many requests wait.
-pub fn waiting_count(journal: &[Entry]) -> usize
-    ensures { result ≡ length (waiting_requests (history_of journal.now)) }
-{
-    count_listed(journal, &WaitingRequests(journal))
 }
 
 /// The waiting request at this place, from 0.

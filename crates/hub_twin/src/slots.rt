@@ -2,7 +2,7 @@ ghost use Rattle.std.specs.Prelude.{◌≡◌, ◌-◌, ◌^◌, min, length, op
 ghost use Rattle.grid_types.specs.History.{history_of, nodes};
 ghost use Rattle.grid_types.specs.Nodes.{stereotypes, stereotypes_of};
 ghost use Rattle.grid_types.specs.Bindings.{bound_slot};
-ghost use Rattle.grid_types.specs.Slots.{holder, holder_told, owner, is_free, load, has_slot_in_use, is_listed, listed};
+ghost use Rattle.grid_types.specs.Slots.{holder, holder_told, owner, is_free, is_held_slot, load, held_count, has_slot_in_use, is_listed, listed};
 ghost use Rattle.hub_twin.specs.Meaning.{as_holder};
 ghost use Rattle.hub_twin.specs.Sizes.{HasSlotNumbers};
 
@@ -127,6 +127,13 @@ pub fn is_free(journal: &[Entry], slot: SlotId) -> bool
     matches!(holder(journal, slot), SlotHolder::Free)
 }
 
+/// The slot is held for a request.
+fn is_held(journal: &[Entry], slot: SlotId) -> bool
+    ensures { result ≡ is_held_slot (holder (history_of journal.now) slot) }
+{
+    matches!(holder(journal, slot), SlotHolder::Held(_))
+}
+
 /// How many slots the groups have, or the type's end where they have more.
 fn group_slots(groups: &[SlotGroup]) -> u32
     ensures { result ≡ min (length (stereotypes groups.now)) (2 ^ 32 - 1) }
@@ -196,6 +203,24 @@ pub fn load(journal: &[Entry], node: NodeNo) -> u32
         }
     }
     load
+}
+
+/// How many slots of a node are held.
+pub(crate) fn held_count(journal: &[Entry], node: NodeNo) -> u32
+    requires sized { HasSlotNumbers (history_of journal.now) }
+    ensures { result ≡ held_count (history_of journal.now) node }
+{
+    let mut held = 0;
+    for index in 0..slot_count(journal, node) {
+        let slot = SlotId {
+            node,
+            index: index as u16,
+        };
+        if is_held(journal, slot) {
+            held += 1;
+        }
+    }
+    held
 }
 
 /// A slot of the node is not free.
