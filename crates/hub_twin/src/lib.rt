@@ -24,7 +24,7 @@ pub use lists::{
     waiting_request,
 };
 pub use nodes::{
-    address_of, is_base_up, is_draining, is_registered, is_spent, node_named, registration_of,
+    address_of, bound_count, is_base_up, is_draining, is_registered, node_named, registration_of,
     standing_of,
 };
 pub use outcomes::{Settled, is_settled, outcome_of};

@@ -1,7 +1,7 @@
 ghost use Rattle.std.specs.Prelude.{◌≡◌, ◌&&◌, is_some, option_copied, unwrap_or, [], find, List, ℕ, Option};
 ghost use Rattle.grid_types.specs.declared.capabilities.Registration.{Registration};
 ghost use Rattle.grid_types.specs.History.{history_of, nodes, node_told};
-ghost use Rattle.grid_types.specs.Nodes.{address_of, max_of, base_of, standing_of, is_up, is_base_up, is_suspect, is_draining, is_registered, beat_of, turned, registration_of, drain_after_of, binds_on, bound_count, is_spent};
+ghost use Rattle.grid_types.specs.Nodes.{address_of, max_of, base_of, standing_of, is_up, is_base_up, is_suspect, is_draining, is_registered, beat_of, turned, registration_of, drain_after_of, binds_on, bound_count};
 ghost use Rattle.grid_types.specs.Permitted.{is_named, has_name};
 
 use crate::walk::{Lists, Tells, first_listed, last_told};
@@ -191,7 +191,7 @@ fn binds_on(node: NodeNo, change: &Change) -> bool
 }
 
 /// How many sessions were bound on a node in all.
-pub(crate) fn bound_count(journal: &[Entry], node: NodeNo) -> usize
+pub fn bound_count(journal: &[Entry], node: NodeNo) -> usize
     ensures { result ≡ bound_count (history_of journal.now) node }
 {
     let mut count = 0;
@@ -201,16 +201,6 @@ pub(crate) fn bound_count(journal: &[Entry], node: NodeNo) -> usize
         }
     }
     count
-}
-
-/// As many sessions were bound on the node as it drains after.
-pub fn is_spent(journal: &[Entry], node: NodeNo) -> bool
-    ensures { result ≡ is_spent (history_of journal.now) node }
-{
-    match drain_after_of(journal, node) {
-        Some(limit) => bound_count(journal, node) as u64 == u64::from(limit),
-        None => false,
-    }
 }
 
 fn has_name(registration: Option<&Registration>, name: &str) -> bool

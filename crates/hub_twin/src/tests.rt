@@ -1,4 +1,4 @@
-use crate::nodes::{beat_of, bound_count, max_of, turned};
+use crate::nodes::{beat_of, max_of, turned};
 use crate::requests::{choice_count, is_barred};
 use crate::sessions::active;
 use crate::slots::{is_free, load};
@@ -158,7 +158,6 @@ fn a_small_journal_tells_of_its_nodes(rt: HostRuntime) -> Result<(), Fail> {
     assert_eq!(rt; lapsed_node(&config, journal, Moment(240_010), 1), Some(2));
     assert_eq!(rt; silent_node(&config, journal, Moment(120_010), 0), Some(1));
     assert!(rt; drained_node(journal, 0).is_none());
-    assert!(rt; is_spent(journal, 1) && !is_spent(journal, 2));
     assert!(rt; standing_of(journal, 2) == Some(Standing::Up));
     assert!(rt; standing_of(journal, 3).is_none());
     assert_eq!(rt; node_named(journal, "n2"), Some(2));

@@ -4,7 +4,7 @@ use grid_types::{NodeNo, NodeView, NodeViews, SlotId, SlotViews, View, WaitViews
 use hub_trial::{Answer, Fault};
 use hub_twin::{
     has_ready_node, listed_count, listed_node, registration_of, slot_count, slot_state,
-    standing_of, wait_view, waiting_count, waiting_request,
+    standing_of, wait_view, waiting_request,
 };
 use std::alloc::Global;
 
@@ -51,11 +51,12 @@ fn nodes_of(alloc: Global, scene: &Scene<'_>) -> Result<NodeViews, Fault> {
 
 fn waiting_of(alloc: Global, scene: &Scene<'_>) -> Result<WaitViews, Fault> {
     let mut waiting = WaitViews::new(alloc);
-    for place in 0..waiting_count(scene.journal) {
-        if let Some(request) = waiting_request(scene.journal, place) {
-            if waiting.push(wait_view(scene.journal, request)).is_err() {
-                return Err(Fault::Memory);
-            }
+    for place in 0..scene.journal.len() {
+        let Some(request) = waiting_request(scene.journal, place) else {
+            break;
+        };
+        if waiting.push(wait_view(scene.journal, request)).is_err() {
+            return Err(Fault::Memory);
         }
     }
     Ok(waiting)
