@@ -28,4 +28,4 @@ pub mod FreeSlotLemmas
 pub mod HeldCountLemmas
 pub mod SweepLemmas
 pub mod DigitLemmas
-pub mod ByteLemmas
+pub mod SizeLemmas

@@ -2,7 +2,6 @@
 //! what each fact about it is, which entries may follow, and what the hub of one thread answers.
 #![tactic(auto)]
 
-mod bytes;
 mod capabilities;
 mod config;
 mod entry;
@@ -10,11 +9,12 @@ mod laws;
 mod limits;
 mod names;
 mod queue_time;
+mod request_size;
+mod spent;
 mod text;
 mod view;
 mod worked;
 
-pub use bytes::request_bytes;
 pub use capabilities::{Cap, CapValue, Caps, Choices, Groups, Registration, SlotGroup};
 pub use config::HubConfig;
 pub use entry::{Change, EndCause, Entry, FailWhy, Found, Outcome};
@@ -25,6 +25,8 @@ pub use laws::{
 pub use limits::{LEAST_QUEUE_TIME_MS, MOST_DOWN_MS, MOST_DRAIN_AFTER, MOST_QUEUE_TIME_MS};
 pub use names::{Moment, NodeAddress, NodeNo, ReqNo, SessionId, SlotId, Words};
 pub use queue_time::{QUEUE_TIME_NAME, time_of_value, time_to_wait};
+pub use request_size::request_bytes;
+pub use spent::Spent;
 pub use text::{Bytes, NoMemory, Text};
 pub use view::{NodeView, NodeViews, SlotState, SlotViews, Standing, View, WaitView, WaitViews};
 pub use worked::{full_grid, worked_histories};
