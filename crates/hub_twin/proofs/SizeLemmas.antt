@@ -1,19 +1,14 @@
 -- Whether each slot of each node can be named, by the nodes of the history.
 use Rattle.std.proofs.Common.{◌≡◌, ℕ, ◌≤◌, ◌++◌, ◌||◌, Bool, true, false, List, [], ◌∷◌, length, arith, refl, nat_lt, nat_eq, not, IsTrue, sym}
-use Rattle.std.specs.Prelude.{unwrap_or, option_map, nat_le}
+use Rattle.std.specs.Prelude.{unwrap_or, option_map}
 use Rattle.grid_types.specs.declared.capabilities.Registration.{Registration}
 use Rattle.grid_types.specs.declared.entry.Entry.{Entry}
 use Rattle.grid_types.specs.declared.entry.Change.{Change}
 use Rattle.grid_types.specs.declared.entry.Change.TheVariants as change
-use Rattle.grid_types.specs.declared.config.HubConfig.{HubConfig}
-use Rattle.grid_types.specs.declared.names.Moment.{Moment}
 use Rattle.std.specs.List.{list_any}
 use Rattle.grid_types.specs.Lists.{when, or_else, with_last}
 use Rattle.grid_types.specs.History.{nodes, node_told}
 use Rattle.grid_types.specs.Nodes.{registration_told, registration_of, stereotypes, stereotypes_of}
-use Rattle.grid_types.specs.Legal.{legal}
-use Rattle.grid_types.specs.Permitted.{permitted}
-use Rattle.grid_types.proofs.LegalLemmas.{legal-before, legal-permitted}
 
 any-numbered : (n : ℕ) (xs : List ℕ) (x : ℕ) → (nat_eq n x || list_any (nat_eq n) xs) ≡ true → list_any (nat_eq n) (xs ++ x ∷ []) ≡ true
 any-numbered n [] x h = h
