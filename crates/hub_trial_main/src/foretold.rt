@@ -8,16 +8,16 @@ use crate::foretold::sweeping::{clear, sweep};
 use crate::foretold::viewing::view;
 use crate::scene::Scene;
 use grid_types::{
-    Caps, Change, Choices, EndCause, Found, Moment, NodeAddress, NodeNo, Outcome, Registration,
+    Caps, Change, Choices, EndCause, Moment, NodeAddress, NodeNo, Outcome, Registration,
     ReqNo, SessionId, SlotId, request_bytes, time_to_wait,
 };
 use hub_trial::{
     Answer, Call, Closed, Fault, caps_of, cause_of, choices_of, registration_of, session_of,
 };
 use hub_twin::{
-    Settled, asked_of, bound_of, chosen, deadline_of, found_of, idle_binding, is_base_up,
-    is_draining, is_registered, is_supported, is_taken, listed_count, next_node, next_request,
-    node_named, outcome_of, unsettled_bytes, unsettled_count,
+    Running, Settled, asked_of, bound_of, chosen, deadline_of, idle_binding, is_base_up,
+    is_draining, is_registered, is_supported, is_taken, listed_node, live, next_node,
+    next_request, node_named, outcome_of, unsettled_bytes, unsettled_count,
 };
 use std::alloc::Global;
 
@@ -69,7 +69,7 @@ fn register(alloc: Global, scene: &Scene<'_>, node: Registration) -> Result<Fore
     if let Some(number) = node_named(scene.journal, node.name.as_str()) {
         return Ok(Foretold::says(alloc, Answer::NameTaken(number)));
     }
-    if listed_count(scene.journal) >= NODES {
+    if listed_node(scene.journal, NODES - 1).is_some() {
         return Ok(Foretold::says(alloc, Answer::NodesFull { listed: 1_024 }));
     }
     let number = next_node(scene.config, scene.journal);
@@ -216,17 +216,20 @@ fn dispatch(alloc: Global, scene: &Scene<'_>) -> Result<Foretold, Fault> {
 }
 
 fn lookup(scene: &Scene<'_>, session: &SessionId) -> Answer {
-    match found_of(scene.journal, session) {
-        Found::At {
-            slot,
-            address,
-            binding,
-        } => Answer::At {
+    match live(scene.journal, session) {
+        Some(
+            Running {
+                slot,
+                address: Some(address),
+                binding,
+                ..
+            },
+        ) => Answer::At {
             slot,
             address,
             binding,
         },
-        Found::NoSession => Answer::NoSession,
+        _ => Answer::NoSession,
     }
 }
 

@@ -7,15 +7,13 @@ ghost use Rattle.grid_types.specs.Fit.{matches_slot, fits, serves, has_sessions_
 ghost use Rattle.grid_types.specs.Permitted.{is_supported, is_last, wanted_of};
 ghost use Rattle.hub_twin.specs.Sizes.{HasSlotNumbers};
 
-use crate::nodes::{
-    bound_count, drain_after_of, is_base_up, is_registered, is_up, max_of, node_told,
-    registration_of,
-};
+use crate::meant::{Nodes, NodesThat};
+use crate::nodes::{bound_count, drain_after_of, is_up, max_of, registration_of};
 use crate::outcomes::is_settled;
-use crate::requests::{choice_of, choices_of, deadline_of, is_barred, is_waiting, reserved_choice};
+use crate::requests::{choice_of, deadline_of, is_barred, is_waiting, reserved_choice};
 use crate::slots::{held_count, is_free, load};
-use crate::walk::{Lists, any_listed};
-use grid_types::{Caps, Change, Entry, Moment, NodeNo, ReqNo, SlotGroup, SlotId};
+use crate::walk::any_listed;
+use grid_types::{Caps, Entry, Moment, NodeNo, ReqNo, SlotGroup, SlotId};
 use slot_match::Steps;
 use std::marker::Brand;
 use std::sync::ledger::{Blank, Ledger};
@@ -102,17 +100,27 @@ pub fn fits(journal: &[Entry], request: ReqNo, choice: u16, slot: SlotId, at: Mo
 }
 
 /// A slot of this stereotype may be given for one of the choices.
+#[tactic(auto, using(std::proofs::lemmas::List::Folds::list_any_more))]
 fn matches_any(choices: &[Caps], stereotype: &Caps) -> bool
     ensures { result ≡ list_any (λ wanted. matches wanted stereotype.now) choices.now }
 {
-    choices.iter().any(|wanted| matches(wanted, stereotype))
+    let mut found = false;
+    for wanted in choices {
+        found = found || matches(wanted, stereotype);
+    }
+    found
 }
 
 /// A group with slots matches one of the choices.
+#[tactic(auto, using(std::proofs::lemmas::List::Folds::list_any_more))]
 fn group_serves(groups: &[SlotGroup], choices: &[Caps]) -> bool
     ensures { result ≡ list_any (λ g. nat_lt 0 g.count && list_any (λ wanted. matches wanted g.stereotype) choices.now) groups.now }
 {
-    groups.iter().any(|group| group.count > 0 && matches_any(choices, &group.stereotype))
+    let mut found = false;
+    for group in groups {
+        found = found || (group.count > 0 && matches_any(choices, &group.stereotype));
+    }
+    found
 }
 
 /// A slot of the node matches one of the choices.
@@ -126,79 +134,30 @@ pub fn serves(journal: &[Entry], node: NodeNo, choices: &[Caps]) -> bool
     }
 }
 
-#[derive(Clone, Copy)]
-struct ServingNodes<'a> {
-    journal: &'a [Entry],
-    choices: &'a [Caps],
-}
-
-impl Lists for ServingNodes<'_> {
-    ghost use Rattle.std.specs.Prelude.{◌&&◌};
-    ghost use Rattle.grid_types.specs.History.{node_told, history_of};
-    ghost use Rattle.grid_types.specs.Nodes.{is_registered};
-    ghost use Rattle.grid_types.specs.Fit.{serves};
-
-    type No = NodeNo;
-
-    ghost told = { λ _ c. node_told c };
-
-    ghost passes = { λ s n. is_registered (history_of s.journal.now) n && serves (history_of s.journal.now) n s.choices.now };
-
-    fn told(&self, change: &Change) -> Option<NodeNo> {
-        node_told(change)
-    }
-
-    fn passes(&self, node: NodeNo) -> bool {
-        is_registered(self.journal, node) && serves(self.journal, node, self.choices)
-    }
-}
-
 /// A slot of a registered node matches one of the choices.
 pub fn is_supported(journal: &[Entry], choices: &[Caps]) -> bool
+    requires sized { HasSlotNumbers (history_of journal.now) }
     ensures { result ≡ is_supported (history_of journal.now) choices.now }
 {
-    any_listed(journal, &ServingNodes { journal, choices })
-}
-
-#[derive(Clone, Copy)]
-struct Alternatives<'a> {
-    journal: &'a [Entry],
-    request: ReqNo,
-    slot: SlotId,
-}
-
-impl Lists for Alternatives<'_> {
-    ghost use Rattle.grid_types.specs.History.{node_told, history_of};
-    ghost use Rattle.grid_types.specs.Permitted.{is_alternative};
-
-    type No = NodeNo;
-
-    ghost told = { λ _ c. node_told c };
-
-    ghost passes = { λ s n. is_alternative (history_of s.journal.now) s.request s.slot n };
-
-    fn told(&self, change: &Change) -> Option<NodeNo> {
-        node_told(change)
-    }
-
-    fn passes(&self, node: NodeNo) -> bool {
-        is_base_up(self.journal, node)
-            && !is_barred(self.journal, self.request, node)
-            && node != self.slot.node
-            && serves(self.journal, node, choices_of(self.journal, self.request))
-    }
+    any_listed(
+        journal,
+        &Nodes {
+            journal,
+            that: NodesThat::Serve(choices),
+        },
+    )
 }
 
 /// A failed start on the slot is the request's last: it is not settled, and no other node of base Up that is not barred
 /// has a slot that matches a choice.
 #[tactic(auto, unfolding(grid_types::specs::Permitted::is_last))]
 pub fn is_last(journal: &[Entry], request: ReqNo, slot: SlotId) -> bool
+    requires sized { HasSlotNumbers (history_of journal.now) }
     ensures { result ≡ is_last (history_of journal.now) request slot }
 {
-    let others = Alternatives {
+    let others = Nodes {
         journal,
-        request,
-        slot,
+        that: NodesThat::AreAlternatives { request, slot },
     };
     !is_settled(journal, request) && !any_listed(journal, &others)
 }

@@ -7,6 +7,7 @@ mod choice;
 mod counts;
 mod fit;
 mod lists;
+mod meant;
 mod nodes;
 mod outcomes;
 mod requests;
@@ -29,10 +30,8 @@ pub use nodes::{
 };
 pub use outcomes::{Settled, is_settled, outcome_of};
 pub use requests::{Asked, asked_of, deadline_of, is_taken, unsettled_count};
-pub use sessions::{Running, bound_of, found_of, is_live_session, live};
-pub use slots::{
-    SlotHolder, bound_slot, has_slot_numbers, holder, listed_count, owner, slot_count,
-};
+pub use sessions::{Running, bound_of, live};
+pub use slots::{SlotHolder, bound_slot, has_slot_numbers, holder, slot_count};
 pub use views::{has_ready_node, slot_state, wait_view};
 
 #[cfg(test)]

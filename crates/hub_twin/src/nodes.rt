@@ -1,10 +1,12 @@
 ghost use Rattle.std.specs.Prelude.{◌≡◌, ◌&&◌, is_some, option_copied, unwrap_or, [], find, List, ℕ, Option};
 ghost use Rattle.grid_types.specs.declared.capabilities.Registration.{Registration};
-ghost use Rattle.grid_types.specs.History.{history_of, nodes, node_told};
+ghost use Rattle.grid_types.specs.History.{history_of, nodes};
 ghost use Rattle.grid_types.specs.Nodes.{address_of, max_of, base_of, standing_of, is_up, is_base_up, is_suspect, is_draining, is_registered, beat_of, turned, registration_of, drain_after_of, binds_on, bound_count};
 ghost use Rattle.grid_types.specs.Permitted.{is_named, has_name};
+ghost use Rattle.hub_twin.specs.Sizes.{HasSlotNumbers};
 
-use crate::walk::{Lists, Tells, first_listed, last_told};
+use crate::meant::{Nodes, NodesThat};
+use crate::walk::{Tells, first_listed, last_told};
 use grid_types::{Change, Entry, Moment, NodeAddress, NodeNo, Registration, Standing};
 
 #[derive(Clone, Copy)]
@@ -203,7 +205,7 @@ pub fn bound_count(journal: &[Entry], node: NodeNo) -> usize
     count
 }
 
-fn has_name(registration: Option<&Registration>, name: &str) -> bool
+pub(crate) fn has_name(registration: Option<&Registration>, name: &str) -> bool
     ensures { result ≡ has_name name.now (option_copied registration.entry) }
 {
     match registration {
@@ -212,47 +214,18 @@ fn has_name(registration: Option<&Registration>, name: &str) -> bool
     }
 }
 
-/// The number of a node that registers.
-pub(crate) fn node_told(change: &Change) -> Option<NodeNo>
-    ensures { result ≡ node_told change.now }
-{
-    match change {
-        Change::Registered { node, .. } => Some(*node),
-        _ => None,
-    }
-}
-
-#[derive(Clone, Copy)]
-struct NodeNamed<'a> {
-    journal: &'a [Entry],
-    name: &'a str,
-}
-
-impl Lists for NodeNamed<'_> {
-    ghost use Rattle.grid_types.specs.History.{node_told, history_of};
-    ghost use Rattle.grid_types.specs.Permitted.{is_named};
-
-    type No = NodeNo;
-
-    ghost told = { λ _ c. node_told c };
-
-    ghost passes = { λ s n. is_named (history_of s.journal.now) s.name.now n };
-
-    fn told(&self, change: &Change) -> Option<NodeNo> {
-        node_told(change)
-    }
-
-    fn passes(&self, node: NodeNo) -> bool {
-        is_registered(self.journal, node)
-            && has_name(registration_of(self.journal, node), self.name)
-    }
-}
-
 /// The first registered node of this name.
 pub fn node_named(journal: &[Entry], name: &str) -> Option<NodeNo>
+    requires sized { HasSlotNumbers (history_of journal.now) }
     ensures { result ≡ find (is_named (history_of journal.now) name.now) (nodes (history_of journal.now)) }
 {
-    first_listed(journal, &NodeNamed { journal, name })
+    first_listed(
+        journal,
+        &Nodes {
+            journal,
+            that: NodesThat::AreNamed(name),
+        },
+    )
 }
 
 #[derive(Clone, Copy)]

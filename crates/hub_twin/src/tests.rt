@@ -4,8 +4,8 @@ use crate::sessions::active;
 use crate::slots::{is_free, load};
 use crate::*;
 use grid_types::{
-    Cap, CapValue, Caps, Change, Choices, Entry, FailWhy, Found, Groups, HubConfig, Moment,
-    NodeAddress, Registration, SessionId, SlotGroup, SlotId, SlotState, Standing, Text,
+    Cap, CapValue, Caps, Change, Choices, Entry, FailWhy, Groups, HubConfig, Moment, NodeAddress,
+    Registration, SessionId, SlotGroup, SlotId, SlotState, Standing, Text,
 };
 use std::alloc::Global;
 use std::test::Fail;
@@ -148,7 +148,6 @@ fn a_small_journal_tells_of_its_nodes(rt: HostRuntime) -> Result<(), Fail> {
         (turned(journal, 2) as u64, 7),
         (u64::from(load(journal, 1)), 1),
         (u64::from(load(journal, 2)), 0),
-        (listed_count(journal) as u64, 2),
         (u64::from(max_of(journal, 2)), 2),
         (bound_count(journal, 1) as u64, 1),
     ];
@@ -161,7 +160,7 @@ fn a_small_journal_tells_of_its_nodes(rt: HostRuntime) -> Result<(), Fail> {
     assert!(rt; standing_of(journal, 2) == Some(Standing::Up));
     assert!(rt; standing_of(journal, 3).is_none());
     assert_eq!(rt; node_named(journal, "n2"), Some(2));
-    assert_eq!(rt; owner(journal, slot(1, 0)), Some(7));
+    assert_eq!(rt; listed_node(journal, 1), Some(2));
     assert!(rt; is_free(journal, slot(2, 0)));
     assert!(rt; has_ready_node(journal));
     assert!(rt; matches!(slot_state(journal, slot(1, 0)), SlotState::Busy(_)));
@@ -199,8 +198,8 @@ fn a_small_journal_tells_of_its_requests(rt: HostRuntime) -> Result<(), Fail> {
     assert!(rt; is_barred(journal, 2, 2));
     assert!(rt; is_last(journal, 2, slot(1, 0)));
     assert!(rt; !is_last(journal, 3, slot(2, 0)));
-    assert!(rt; is_live_session(journal, &session(b"s1")?));
-    assert!(rt; matches!(found_of(journal, &session(b"s2")?), Found::NoSession));
+    assert!(rt; live(journal, &session(b"s1")?).is_some());
+    assert!(rt; live(journal, &session(b"s2")?).is_none());
     // the first node has no room for a second session, and the second request is barred from the other
     let next = Assignment {
         request: 3,

@@ -4,7 +4,7 @@ use crate::scene::Scene;
 use grid_types::{Caps, Change, FailWhy, NodeNo, ReqNo, SessionId, SlotId};
 use hub_trial::{Answer, Closed, Fault};
 use hub_twin::{
-    bound_count, is_base_up, is_last, is_live_session, is_registered, is_settled, meets_wanted,
+    bound_count, is_base_up, is_last, is_registered, is_settled, live, meets_wanted,
     registration_of,
 };
 use std::alloc::Global;
@@ -21,7 +21,7 @@ fn refusal(
         Some(FailWhy::Late)
     } else if !is_registered(scene.journal, slot.node) {
         Some(FailWhy::NodeGone)
-    } else if is_live_session(scene.journal, session) {
+    } else if live(scene.journal, session).is_some() {
         Some(FailWhy::Duplicate)
     } else if !meets_wanted(scene.journal, request, slot, caps) {
         Some(FailWhy::Mismatch)

@@ -3,7 +3,7 @@ use crate::scene::Scene;
 use grid_types::{NodeNo, NodeView, NodeViews, SlotId, SlotViews, View, WaitViews};
 use hub_trial::{Answer, Fault};
 use hub_twin::{
-    has_ready_node, listed_count, listed_node, registration_of, slot_count, slot_state,
+    has_ready_node, listed_node, registration_of, slot_count, slot_state,
     standing_of, wait_view, waiting_request,
 };
 use std::alloc::Global;
@@ -39,11 +39,12 @@ fn node_of(alloc: Global, scene: &Scene<'_>, node: NodeNo) -> Result<NodeView, F
 
 fn nodes_of(alloc: Global, scene: &Scene<'_>) -> Result<NodeViews, Fault> {
     let mut nodes = NodeViews::new(alloc);
-    for place in 0..listed_count(scene.journal) {
-        if let Some(node) = listed_node(scene.journal, place) {
-            if nodes.push(node_of(alloc, scene, node)?).is_err() {
-                return Err(Fault::Memory);
-            }
+    for place in 0..scene.journal.len() {
+        let Some(node) = listed_node(scene.journal, place) else {
+            break;
+        };
+        if nodes.push(node_of(alloc, scene, node)?).is_err() {
+            return Err(Fault::Memory);
         }
     }
     Ok(nodes)
