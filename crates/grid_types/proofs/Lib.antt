@@ -27,3 +27,4 @@ pub mod AskedLemmas
 pub mod FreeSlotLemmas
 pub mod HeldCountLemmas
 pub mod SweepLemmas
+pub mod DigitLemmas

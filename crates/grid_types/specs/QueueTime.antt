@@ -1,5 +1,5 @@
 -- How long a request may wait: as long as its choices ask, or else as long as the hub lets each wait.
-use Rattle.std.specs.Prelude.{ℕ, Bool, cond, ◌&&◌, nat_le, bytes_eq, List, Option, None, unwrap_or, codes}
+use Rattle.std.specs.Prelude.{ℕ, Bool, cond, ◌&&◌, nat_le, bytes_eq, List, Option, None, unwrap_or}
 use Rattle.std.specs.Char.{is_ascii_digit}
 use Rattle.std.specs.List.{list_all}
 use Rattle.std.specs.Str.Parse.{digits_value}
@@ -8,11 +8,8 @@ use Rattle.grid_types.specs.declared.capabilities.CapValue.{CapValue}
 use Rattle.grid_types.specs.declared.capabilities.CapValue.TheVariants as value
 use Rattle.grid_types.specs.declared.config.HubConfig.{HubConfig}
 use Rattle.grid_types.specs.declared.limits.TheConstants.{LEAST_QUEUE_TIME_MS, MOST_QUEUE_TIME_MS}
+use Rattle.grid_types.specs.declared.queue_time.TheConstants.{QUEUE_TIME_NAME}
 use Rattle.grid_types.specs.Lists.{when, first_some}
-
--- the extension capability by which a request asks for its own time
-abbrev pub queue_time_name : List ℕ
-queue_time_name = codes "grid:queueTimeout"
 
 -- digits alone, of a number of milliseconds that a request may ask for
 abbrev pub is_queue_time : List ℕ → Bool
@@ -27,7 +24,7 @@ queue_time_of other = None
 
 -- the time that a member asks for
 abbrev pub asked_time : Cap → Option ℕ
-asked_time member = cond (bytes_eq member.name queue_time_name) (queue_time_of member.value) None
+asked_time member = cond (bytes_eq member.name QUEUE_TIME_NAME.now) (queue_time_of member.value) None
 
 -- the time that the first list which asks for one asks for, or else the hub's
 abbrev pub queue_time : HubConfig → List (List Cap) → ℕ

@@ -21,7 +21,7 @@ use Rattle.grid_types.specs.declared.view.Standing.TheVariants as standing
 use Rattle.grid_types.specs.declared.view.SlotState.TheVariants as state
 use Rattle.grid_types.specs.Config.{default_config}
 use Rattle.grid_types.specs.Capabilities.{written_caps, request_bytes, json_string}
-use Rattle.grid_types.specs.QueueTime.{queue_time_name, queue_time}
+use Rattle.grid_types.specs.QueueTime.{queue_time}
 use Rattle.grid_types.specs.Matching.{matches, meets}
 use Rattle.grid_types.specs.Requests.{is_barred, place, waiting}
 use Rattle.grid_types.specs.Permitted.{permitted, deadline_at}
@@ -580,7 +580,7 @@ pub record WorkedCount : Type 0 where
 
 -- the time that a request asks to wait
 abbrev pub asking : CapValue → List Cap
-asking value = record { name = queue_time_name; value = value } ∷ []
+asking value = record { name = codes "grid:queueTimeout"; value = value } ∷ []
 
 abbrev pub waits : List (List Cap) → ℕ
 waits = queue_time default_config

@@ -8,6 +8,7 @@ mod entry;
 mod laws;
 mod limits;
 mod names;
+mod queue_time;
 mod text;
 mod view;
 mod worked;
@@ -21,6 +22,7 @@ pub use laws::{
 };
 pub use limits::{LEAST_QUEUE_TIME_MS, MOST_DOWN_MS, MOST_DRAIN_AFTER, MOST_QUEUE_TIME_MS};
 pub use names::{Moment, NodeAddress, NodeNo, ReqNo, SessionId, SlotId, Words};
+pub use queue_time::{QUEUE_TIME_NAME, time_of_value, time_to_wait};
 pub use text::{Bytes, NoMemory, Text};
 pub use view::{NodeView, NodeViews, SlotState, SlotViews, Standing, View, WaitView, WaitViews};
 pub use worked::{full_grid, worked_histories};

@@ -3,7 +3,7 @@ use Rattle.std.specs.Prelude.{ℕ, Bool, not, List, ◌++◌, bytes_eq, codes}
 use Rattle.std.specs.List.{filter}
 use Rattle.grid_types.specs.declared.capabilities.Cap.{Cap}
 use Rattle.grid_types.specs.Capabilities.{json_string, written_caps}
-use Rattle.grid_types.specs.QueueTime.{queue_time_name}
+use Rattle.grid_types.specs.declared.queue_time.TheConstants.{QUEUE_TIME_NAME}
 use Rattle.wd_bodies.specs.declared.code.ErrorCode.{ErrorCode}
 use Rattle.wd_bodies.specs.Codes.{code_text}
 
@@ -23,7 +23,7 @@ created_bytes session caps =
 
 -- how long a request waits is for the hub alone
 abbrev pub is_for_nodes : Cap → Bool
-is_for_nodes member = not (bytes_eq member.name queue_time_name)
+is_for_nodes member = not (bytes_eq member.name QUEUE_TIME_NAME.now)
 
 -- the capabilities that a node is asked for
 abbrev pub for_nodes : List Cap → List Cap

@@ -4,7 +4,7 @@ ghost use Rattle.std.specs.List.{join_with_byte};
 ghost use Rattle.grid_types.specs.Capabilities.{json_string, written_value, written_member, written_caps};
 ghost use Rattle.wd_bodies.specs.Bodies.{is_for_nodes, for_nodes};
 
-use grid_types::{Cap, CapValue, Caps, NoMemory, Text};
+use grid_types::{Cap, CapValue, Caps, NoMemory, QUEUE_TIME_NAME, Text};
 use std::alloc::Global;
 
 /// The capabilities as a JSON object, in their order and without white space.
@@ -58,7 +58,7 @@ fn push_for_nodes(alloc: Global, text: &mut String, members: &[Cap]) -> Result<(
 fn is_for_nodes(member: &Cap) -> bool
     ensures { result ≡ is_for_nodes member.now }
 {
-    member.name.as_str() != "grid:queueTimeout"
+    member.name.as_str() != QUEUE_TIME_NAME
 }
 
 // The member, behind a comma where it is not the first.
