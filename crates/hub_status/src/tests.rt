@@ -1,3 +1,4 @@
+// A status and a queue, byte for byte.
 use crate::{queue_body, status_body};
 use grid_types::{
     Cap, CapValue, Caps, Groups, Moment, NoMemory, NodeAddress, NodeView, NodeViews, Registration,
@@ -37,6 +38,7 @@ fn node(alloc: Global, standing: Standing, states: &[SlotState]) -> Result<NodeV
             address: NodeAddress::from_bytes(b"h:1").ok_or(NoMemory)?,
             max_sessions: 3,
             groups,
+            drain_after: None,
         },
         standing,
         slots,
