@@ -16,4 +16,5 @@ all_ask lists = list_all (list_all asks_where_named) lists
 
 -- a time that a body asks for is never passed over
 abbrev pub OwnTimesAreRead : Type 0
-OwnTimesAreRead = (body : List ℕ) (lists : List (List Cap)) → BodyGives body (Ok lists) → all_ask lists ≡ true
+OwnTimesAreRead =
+    (body : List ℕ) (lists : List (List Cap)) → BodyGives body (Ok lists) → all_ask lists ≡ true
