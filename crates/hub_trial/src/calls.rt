@@ -6,8 +6,8 @@ use crate::answers::{Answer, Fault};
 use crate::desk::Desk;
 use crate::makings::{address, ask_to_wait, browser, node, only};
 use grid_types::{
-    Caps, Choices, FailWhy, MOST_DRAIN_AFTER, Moment, NodeNo, Registration, ReqNo, SessionId, SlotId,
-    Text, Words,
+    Caps, Choices, FailWhy, MOST_DRAIN_AFTER, Moment, NodeNo, Registration, ReqNo, SessionId,
+    SlotId, Text, Words,
 };
 use std::alloc::Global;
 
@@ -112,12 +112,7 @@ pub fn registration_of(
 
 /// Two choices, or one where both are the same. The first asks to wait for so many milliseconds, or for no time of its own
 /// for 0.
-pub fn choices_of(
-    alloc: Global,
-    first: u64,
-    second: u64,
-    wait_ms: u64,
-) -> Result<Choices, Fault> {
+pub fn choices_of(alloc: Global, first: u64, second: u64, wait_ms: u64) -> Result<Choices, Fault> {
     let mut caps = caps_of(alloc, first)?;
     if wait_ms > 0 {
         ask_to_wait(alloc, &mut caps, wait_ms)?;
@@ -159,7 +154,10 @@ fn call_of_nodes(desk: &mut Desk, alloc: Global, call: &Call, at: Moment) -> Res
             browser,
             pair,
             drain_after,
-        } => desk.register(registration_of(alloc, name, browser, pair, drain_after)?, at),
+        } => desk.register(
+            registration_of(alloc, name, browser, pair, drain_after)?,
+            at,
+        ),
         Call::Beat(node) => desk.beat(node, at),
         Call::Drain(node) => desk.drain(node, at),
         Call::Remove(node) => desk.remove(node, at),

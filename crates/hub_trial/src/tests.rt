@@ -37,6 +37,15 @@ const fn wish(browser: u64) -> Call {
     }
 }
 
+/// A request for Chrome that asks to wait for so many milliseconds.
+const fn wish_for(wait_ms: u64) -> Call {
+    Call::Enqueue {
+        first: 0,
+        second: 0,
+        wait_ms,
+    }
+}
+
 const fn bind(request: u64, session: u64, browser: u64) -> Call {
     Call::Bind {
         request,
@@ -150,9 +159,10 @@ const fn pair(drain_after: u32) -> Call {
     }
 }
 
-// A node is suspect after 120,000 ms without a beat, and down after 240,000 ms; its sessions run on until then.
+// A node is suspect after 120,000 ms without a beat, and down after 240,000 ms; its sessions run on until then. A drain of a
+// suspect node is shown from its next beat on.
 #[test]
-fn a_silent_node_is_suspect_and_lapses_later(rt: HostRuntime) -> Result<(), Fault> {
+fn a_silent_node_is_suspect_before_it_lapses(rt: HostRuntime) -> Result<(), Fault> {
     let steps = [
         (0, pair(0), "registered 1"),
         (0, wish(0), "queued 1"),
@@ -170,25 +180,26 @@ fn a_silent_node_is_suspect_and_lapses_later(rt: HostRuntime) -> Result<(), Faul
         (370_000, Call::Lookup(0), "no session"),
         (370_000, bind(2, 1, 0), "node gone 1.1 at x:1 to quit"),
         (370_000, pair(0), "registered 2"),
+        (490_000, Call::Sweep, "swept 0 1 0 0"),
+        (490_000, Call::Drain(2), "draining"),
+        (
+            490_000,
+            Call::View,
+            "ready false 1 Down 2 Suspect waiting 0",
+        ),
+        (490_000, Call::Beat(2), "beaten"),
+        (
+            490_000,
+            Call::View,
+            "ready false 1 Down 2 Draining waiting 0",
+        ),
     ];
     plays(&rt, rt.alloc(), HubConfig::default(), &steps)
 }
 
+// A time of less than 1,000 ms is none that a request may ask for.
 #[test]
-fn a_suspect_node_drains_from_its_next_beat(rt: HostRuntime) -> Result<(), Fault> {
-    let steps = [
-        (0, node(0, 0), "registered 1"),
-        (120_000, Call::Sweep, "swept 0 1 0 0"),
-        (120_000, Call::Drain(1), "draining"),
-        (120_000, Call::View, "ready false 1 Suspect waiting 0"),
-        (120_000, Call::Beat(1), "beaten"),
-        (120_000, Call::View, "ready false 1 Draining waiting 0"),
-    ];
-    plays(&rt, rt.alloc(), HubConfig::default(), &steps)
-}
-
-#[test]
-fn a_node_drains_after_its_count(rt: HostRuntime) -> Result<(), Fault> {
+fn a_node_and_requests_have_limits_of_their_own(rt: HostRuntime) -> Result<(), Fault> {
     let steps = [
         (0, pair(1), "registered 1"),
         (0, wish(0), "queued 1"),
@@ -200,29 +211,12 @@ fn a_node_drains_after_its_count(rt: HostRuntime) -> Result<(), Fault> {
         (0, end(0, 1), "ended 1.0 at x:1 to quit"),
         (0, freed(1), "freed"),
         (0, Call::Sweep, "swept 0 0 0 1"),
-    ];
-    plays(&rt, rt.alloc(), HubConfig::default(), &steps)
-}
-
-#[test]
-fn a_request_waits_as_long_as_it_asks(rt: HostRuntime) -> Result<(), Fault> {
-    let patient = Call::Enqueue {
-        first: 0,
-        second: 0,
-        wait_ms: 2_000,
-    };
-    let hasty = Call::Enqueue {
-        first: 0,
-        second: 0,
-        wait_ms: 999,
-    };
-    let steps = [
-        (10, patient, "queued 1"),
-        (10, hasty, "queued 2"),
-        (2_009, Call::Poll(1), "not yet"),
-        (2_010, Call::Poll(1), "timed out 2010"),
-        (300_009, Call::Poll(2), "not yet"),
-        (300_010, Call::Poll(2), "timed out 300010"),
+        (10, wish_for(2_000), "queued 3"),
+        (10, wish_for(999), "queued 4"),
+        (2_009, Call::Poll(3), "not yet"),
+        (2_010, Call::Poll(3), "timed out 2010"),
+        (300_009, Call::Poll(4), "not yet"),
+        (300_010, Call::Poll(4), "timed out 300010"),
     ];
     plays(&rt, rt.alloc(), HubConfig::default(), &steps)
 }
