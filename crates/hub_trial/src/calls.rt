@@ -16,11 +16,13 @@ const BROWSERS: [&str; 3] = ["chrome", "firefox", ""];
 /// A call, with what it is handed as numbers.
 #[derive(Clone, Copy, Debug)]
 pub enum Call {
-    /// A node whose name and address follow from its number, with one slot or a pair.
+    /// A node whose name and address follow from its number, with one slot or a pair. It drains after so many sessions;
+    /// with 0 it does not.
     Register {
         name: u64,
         browser: u64,
         pair: bool,
+        sessions: u32,
     },
     Beat(NodeNo),
     Drain(NodeNo),
@@ -71,12 +73,13 @@ fn slot_count(pair: bool) -> u16
     if pair { 2 } else { 1 }
 }
 
-/// A node with one slot or two.
+/// A node with one slot or two, that drains after so many sessions, or with 0 does not.
 pub fn registration_of(
     alloc: Global,
     name: u64,
     browser: u64,
     pair: bool,
+    sessions: u32,
 ) -> Result<Registration, Fault>
     ensures { IfOk result (λ r. is_well_sized r ≡ true) }
 {
@@ -91,6 +94,7 @@ pub fn registration_of(
         place,
         offered,
         slot_count(pair),
+        sessions,
     )
 }
 
@@ -132,7 +136,8 @@ fn call_of_nodes(desk: &mut Desk, alloc: Global, call: &Call, at: Moment) -> Res
             name,
             browser,
             pair,
-        } => desk.register(registration_of(alloc, name, browser, pair)?, at),
+            sessions,
+        } => desk.register(registration_of(alloc, name, browser, pair, sessions)?, at),
         Call::Beat(node) => desk.beat(node, at),
         Call::Drain(node) => desk.drain(node, at),
         Call::Remove(node) => desk.remove(node, at),
