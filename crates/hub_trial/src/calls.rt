@@ -16,13 +16,11 @@ const BROWSERS: [&str; 3] = ["chrome", "firefox", ""];
 /// A call, with what it is handed as numbers.
 #[derive(Clone, Copy, Debug)]
 pub enum Call {
-    /// A node whose name and address follow from its number, with one slot or a pair. It drains after so many sessions;
-    /// with 0 it does not.
+    /// A node whose name and address follow from its number, with one slot or a pair.
     Register {
         name: u64,
         browser: u64,
         pair: bool,
-        sessions: u32,
     },
     Beat(NodeNo),
     Drain(NodeNo),
@@ -73,13 +71,12 @@ fn slot_count(pair: bool) -> u16
     if pair { 2 } else { 1 }
 }
 
-/// A node with one slot or two, that drains after so many sessions, or with 0 does not.
+/// A node with one slot or two.
 pub fn registration_of(
     alloc: Global,
     name: u64,
     browser: u64,
     pair: bool,
-    sessions: u32,
 ) -> Result<Registration, Fault>
     ensures { IfOk result (λ r. is_well_sized r ≡ true) }
 {
@@ -94,7 +91,6 @@ pub fn registration_of(
         place,
         offered,
         slot_count(pair),
-        sessions,
     )
 }
 
@@ -136,8 +132,7 @@ fn call_of_nodes(desk: &mut Desk, alloc: Global, call: &Call, at: Moment) -> Res
             name,
             browser,
             pair,
-            sessions,
-        } => desk.register(registration_of(alloc, name, browser, pair, sessions)?, at),
+        } => desk.register(registration_of(alloc, name, browser, pair)?, at),
         Call::Beat(node) => desk.beat(node, at),
         Call::Drain(node) => desk.drain(node, at),
         Call::Remove(node) => desk.remove(node, at),

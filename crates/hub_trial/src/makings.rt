@@ -1,11 +1,10 @@
 //! What is handed to a hub in a trial.
 ghost use Rattle.std.specs.Prelude.{◌≡◌, ◌≤◌, true, IfOk};
-ghost use Rattle.grid_types.specs.Permitted.{is_drain_count, is_well_sized};
+ghost use Rattle.grid_types.specs.Permitted.{is_well_sized};
 
 use crate::answers::Fault;
 use grid_types::{
-    Cap, CapValue, Caps, Choices, Groups, MOST_DRAIN_AFTER, NodeAddress, Registration, SlotGroup,
-    Text,
+    Cap, CapValue, Caps, Choices, Groups, NodeAddress, Registration, SlotGroup, Text,
 };
 use std::alloc::Global;
 
@@ -30,26 +29,13 @@ pub(crate) fn only(alloc: Global, caps: Caps) -> Result<Choices, Fault> {
     }
 }
 
-/// The count of sessions after which a node drains; with 0 there is none.
-fn count_of(sessions: u32) -> Option<u32>
-    ensures { is_drain_count result ≡ true }
-{
-    if sessions == 0 {
-        None
-    } else {
-        Some(sessions.min(MOST_DRAIN_AFTER))
-    }
-}
-
-/// A node with so many slots of one browser, all of which may run at once. It drains after so many sessions; with 0 it
-/// does not.
+/// A node with so many slots of one browser, all of which may run at once.
 pub(crate) fn node(
     alloc: Global,
     name: Text,
     address: NodeAddress,
     stereotype: Caps,
     slots: u16,
-    sessions: u32,
 ) -> Result<Registration, Fault>
     requires least { 1 ≤ slots }
     requires most { slots ≤ 64 }
@@ -68,7 +54,6 @@ pub(crate) fn node(
         address,
         max_sessions: slots,
         groups,
-        drain_after: count_of(sessions),
     })
 }
 

@@ -1,7 +1,7 @@
 // Each test is a list of calls with their moments and the answers that were worked out by hand. Chrome is the browser 0,
 // firefox is 1, and 2 takes any. The nodes of the names 0 and 3 are at `x:1`, the others at `x:2`.
 use crate::*;
-use grid_types::{HubConfig, Moment, SlotId, Standing};
+use grid_types::{HubConfig, Moment, SlotId};
 use std::alloc::Global;
 use std::process::Abort;
 
@@ -24,7 +24,6 @@ const fn node(name: u64, browser: u64) -> Call {
         name,
         browser,
         pair: false,
-        sessions: 0,
     }
 }
 
@@ -139,82 +138,28 @@ fn a_number_that_was_not_given_is_no_node(rt: HostRuntime) -> Result<(), Fault> 
     plays(&rt, rt.alloc(), HubConfig::default(), &steps)
 }
 
-/// A node with two slots of chrome, that drains after so many sessions.
-const fn pair(sessions: u32) -> Call {
-    Call::Register {
+// A node lapses after 120,000 ms.
+#[test]
+fn a_silent_node_lapses_with_its_sessions(rt: HostRuntime) -> Result<(), Fault> {
+    let two_slots = Call::Register {
         name: 0,
         browser: 0,
         pair: true,
-        sessions,
-    }
-}
-
-// A node is suspect after 120,000 ms without a beat, and down after 240,000.
-#[test]
-fn a_silent_node_is_suspect_and_then_down(rt: HostRuntime) -> Result<(), Fault> {
+    };
     let steps = [
-        (0, pair(0), "registered 1"),
-        (0, wish(0), "queued 1"),
-        (0, Call::Poll(1), "yours 1 on 1.0"),
-        (0, bind(1, 0, 0), "bound 1"),
-        (119_999, Call::Sweep, "swept 0 0 0 0"),
-        (120_000, Call::Sweep, "swept 0 1 0 0"),
-        (120_000, Call::Lookup(0), "1 on 1.0 at x:1"),
-        (120_000, wish(0), "queued 2"),
-        (120_000, Call::Dispatch, "nothing"),
-        (130_000, Call::Beat(1), "beaten"),
-        (130_000, Call::Dispatch, "assigned 2 on 1.1"),
-        (250_000, Call::Sweep, "swept 0 1 0 0"),
-        (370_000, Call::Sweep, "swept 1 0 0 0"),
-        (370_000, Call::Lookup(0), "no session"),
-        (370_000, bind(2, 1, 0), "node gone 1.1 at x:1 to quit"),
-        (370_000, pair(0), "registered 2"),
-    ];
-    plays(&rt, rt.alloc(), HubConfig::default(), &steps)
-}
-
-// A slot that is held counts as a session, and the bind of the last one drains the node.
-#[test]
-fn a_node_drains_after_its_count(rt: HostRuntime) -> Result<(), Fault> {
-    let steps = [
-        (0, pair(1), "registered 1"),
+        (0, two_slots, "registered 1"),
         (0, wish(0), "queued 1"),
         (0, wish(0), "queued 2"),
-        (0, Call::Dispatch, "assigned 1 on 1.0"),
-        (0, Call::Dispatch, "nothing"),
+        (0, Call::Poll(1), "yours 1 on 1.0"),
         (0, bind(1, 0, 0), "bound 1"),
-        (0, Call::Dispatch, "nothing"),
-        (0, end(0, 1), "ended 1.0 at x:1 to quit"),
-        (0, freed(1), "freed"),
-        (0, Call::Sweep, "swept 0 0 0 1"),
+        (0, Call::Poll(2), "yours 2 on 1.1"),
+        (119_999, Call::Sweep, "swept 0 0 0"),
+        (120_000, Call::Sweep, "swept 1 0 0"),
+        (120_000, Call::Lookup(0), "no session"),
+        (120_000, bind(2, 1, 0), "node gone 1.1 at x:1 to quit"),
+        (120_000, two_slots, "registered 2"),
     ];
     plays(&rt, rt.alloc(), HubConfig::default(), &steps)
-}
-
-fn first_standing(desk: &Desk) -> Result<Option<Standing>, Fault> {
-    match desk.view()? {
-        Answer::Viewed(view) => match view.nodes.items() {
-            [first, ..] => Ok(Some(first.standing)),
-            [] => Ok(None),
-        },
-        _ => Ok(None),
-    }
-}
-
-#[test]
-fn a_drained_node_is_shown_as_suspect_until_it_beats(rt: HostRuntime) -> Result<(), Fault> {
-    let mut desk = Desk::new(rt.alloc(), HubConfig::default())?;
-    for (at, call) in [
-        (0, pair(0)),
-        (120_000, Call::Sweep),
-        (120_000, Call::Drain(1)),
-    ] {
-        make(&mut desk, rt.alloc(), &call, Moment(at))?;
-    }
-    assert!(rt; first_standing(&desk)? == Some(Standing::Suspect));
-    make(&mut desk, rt.alloc(), &Call::Beat(1), Moment(120_001))?;
-    assert!(rt; first_standing(&desk)? == Some(Standing::Draining));
-    Ok(())
 }
 
 // A session is idle after 300,000 ms without a touch.

@@ -97,10 +97,9 @@ pub fn told(alloc: Global, answer: &Answer) -> Result<String, Fault> {
         }
         Answer::Swept {
             lapsed,
-            suspected,
             timed_out,
             removed,
-        } => format!(in alloc; "swept {lapsed} {suspected} {timed_out} {removed}"),
+        } => format!(in alloc; "swept {lapsed} {timed_out} {removed}"),
         Answer::Viewed(view) => {
             let (nodes, waiting) = (view.nodes.items().len(), view.waiting.items().len());
             format!(in alloc; "ready {} nodes {nodes} waiting {waiting}", view.ready)
