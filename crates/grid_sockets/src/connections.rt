@@ -3,7 +3,7 @@ ghost use Rattle.std.specs.Prelude.{◌≡◌, ℕ, ◌<◌, ◌≤◌, ◌+◌,
 ghost use Rattle.grid_outside.specs.Counts.{Rose};
 ghost use Rattle.grid_outside.specs.Exchanges.{is_within};
 
-use grid_outside::{ExchangeFault, NodeLink, Reply};
+use grid_outside::{ExchangeFault, KEPT_BYTES, NodeLink, Reply};
 use grid_types::{Bytes, NoMemory, NodeAddress};
 use http_frames::{LIMITS, NodeRequest, RStep, next_response, write_request};
 use std::alloc::{AllocError, Global};
@@ -18,9 +18,6 @@ const SECONDS_TO_CONNECT: u64 = 10;
 /// How long one read from a node, or one write to it, may take, in seconds. It is long, since of a
 /// start that is given up while the node still makes it nobody knows.
 const SECONDS_FOR_NODES: u64 = 600;
-
-/// The most bytes that are kept of what is no reply.
-const KEPT_BYTES: usize = 1_024;
 
 /// Reaches nodes at `host:port`, with one connection for each exchange. The host may be a name.
 #[derive(Drop)]

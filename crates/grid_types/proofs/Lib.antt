@@ -28,3 +28,4 @@ pub mod FreeSlotLemmas
 pub mod HeldCountLemmas
 pub mod SweepLemmas
 pub mod DigitLemmas
+pub mod SizeLemmas

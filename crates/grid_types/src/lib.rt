@@ -9,6 +9,8 @@ mod laws;
 mod limits;
 mod names;
 mod queue_time;
+mod request_size;
+mod spent;
 mod text;
 mod view;
 mod worked;
@@ -23,6 +25,8 @@ pub use laws::{
 pub use limits::{LEAST_QUEUE_TIME_MS, MOST_DOWN_MS, MOST_DRAIN_AFTER, MOST_QUEUE_TIME_MS};
 pub use names::{Moment, NodeAddress, NodeNo, ReqNo, SessionId, SlotId, Words};
 pub use queue_time::{QUEUE_TIME_NAME, time_of_value, time_to_wait};
+pub use request_size::request_bytes;
+pub use spent::Spent;
 pub use text::{Bytes, NoMemory, Text};
 pub use view::{NodeView, NodeViews, SlotState, SlotViews, Standing, View, WaitView, WaitViews};
 pub use worked::{full_grid, worked_histories};

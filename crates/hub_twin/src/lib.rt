@@ -16,7 +16,7 @@ mod slots;
 mod views;
 mod walk;
 
-pub use bytes::{request_bytes, unsettled_bytes};
+pub use bytes::unsettled_bytes;
 pub use choice::{Assignment, assignment_before, chosen, slot_before};
 pub use counts::{clock, next_node, next_request};
 pub use fit::{fits, is_last, is_supported, meets_wanted, serves, stereotype_of};

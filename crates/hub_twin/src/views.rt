@@ -6,12 +6,11 @@ ghost use Rattle.grid_types.specs.Requests.{bytes_of};
 ghost use Rattle.grid_types.specs.Overview.{is_ready, state_of, wait_view};
 ghost use Rattle.hub_twin.specs.Sizes.{HasSlotNumbers};
 
-use crate::bytes::request_bytes;
 use crate::nodes::{is_up, max_of, node_told};
 use crate::requests::{choice_count, choices_of, deadline_of};
 use crate::slots::{SlotHolder, holder, load, slot_count};
 use crate::walk::{Lists, any_listed};
-use grid_types::{Change, Entry, NodeNo, ReqNo, SlotId, SlotState, WaitView};
+use grid_types::{Change, Entry, NodeNo, ReqNo, SlotId, SlotState, WaitView, request_bytes};
 
 fn has_free_slot(journal: &[Entry], node: NodeNo) -> bool
     requires sized { HasSlotNumbers (history_of journal.now) }

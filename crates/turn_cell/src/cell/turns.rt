@@ -1,5 +1,5 @@
 //! Turns, and what becomes of passes.
-ghost use Rattle.std.specs.Prelude.{◌≡◌, ◌+◌, ◌<◌, ◌≤◌, ◌^◌, ◌++◌, [], ◌∷◌, ◌↔◌, IsTrue, max, Some, None, IfOk, IfErr, MatchBool, MatchResult};
+ghost use Rattle.std.specs.Prelude.{◌≡◌, ◌+◌, ◌<◌, ◌≤◌, ◌^◌, ◌++◌, [], ◌∷◌, ◌↔◌, IsTrue, max, Some, None, IsOk, IfOk, IfErr, MatchBool, MatchResult};
 ghost use mathlib.Core.List.{IsPrefix};
 ghost use Rattle.turn_cell.specs.Rule.{AllBy, NotAmong, numbers_of};
 ghost use Rattle.turn_cell.specs.Steps.{looked_once, seeing, after, after_none, opened_at, merged, IsExact};
@@ -47,7 +47,7 @@ impl<V: Stands> TurnCell<V> {
     }
 
     /// Ends a turn that made no entries, and gives a new pass that has seen as much and has made nothing. Its number is
-    /// the turn's ticket plus 1, which no other pass has. The turn ends also where the answer is `NoMemory`.
+    /// the turn's ticket plus 1, which no other pass has. A pass takes no memory, so the answer is Ok.
     pub fn split(&self, turn: Turn<V>, pass: &mut Pass<V>) -> Result<Pass<V>, NoMemory>
         requires own { IsOf self.now pass.old × HasTurn pass.old turn }
         requires value { V.stands turn.value (view_of pass.old).seen × (V.mark turn.value ≡ V.mark (origin_of self.now)) }
@@ -55,6 +55,7 @@ impl<V: Stands> TurnCell<V> {
         ensures view { (view_of pass.new ≡ after_none (view_of pass.old)) × IsExact (view_of pass.new) }
         ensures split { IfOk result (λ p. IsOf self.now p × IsFree p × (view_of p ≡ opened_at (turn.ticket + 1) (view_of pass.old)) × IsExact (view_of p)) }
         ensures number { IfOk result (λ p. NotAmong (view_of p).number (numbers_of (view_of pass.new))) }
+        ensures done { IsOk result }
     {
         let Turn { ticket, value } = turn;
         let top = &self.table.shared;

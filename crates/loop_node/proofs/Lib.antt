@@ -1,0 +1,9 @@
+mod Texts
+mod SessionLemmas
+mod SeekLemmas
+mod ListLemmas
+mod PathLemmas
+mod NodeLemmas
+mod ReadingLemmas
+mod ReplyLemmas
+mod SizeLemmas
