@@ -2,7 +2,8 @@ ghost use Rattle.std.specs.Prelude.{◌≡◌, ◌-◌, ◌^◌, min};
 ghost use Rattle.grid_types.specs.History.{history_of};
 ghost use Rattle.grid_types.specs.Requests.{unsettled_bytes};
 
-use crate::requests::{UnsettledRequests, choices_of};
+use crate::meant::{Requests, RequestsThat};
+use crate::requests::choices_of;
 use crate::walk::meant;
 use grid_types::{Entry, request_bytes};
 
@@ -10,9 +11,13 @@ use grid_types::{Entry, request_bytes};
 pub fn unsettled_bytes(journal: &[Entry]) -> u64
     ensures { result ≡ min (unsettled_bytes (history_of journal.now)) (2 ^ 64 - 1) }
 {
+    let unsettled = Requests {
+        journal,
+        that: RequestsThat::AreUnsettled,
+    };
     let mut bytes: u64 = 0;
     for entry in journal {
-        if let Some(request) = meant(&UnsettledRequests(journal), &entry.change) {
+        if let Some(request) = meant(&unsettled, &entry.change) {
             bytes = bytes.saturating_add(request_bytes(choices_of(journal, request)));
         }
     }

@@ -7,3 +7,5 @@ mod NodeLemmas
 mod ReadingLemmas
 mod ReplyLemmas
 mod SizeLemmas
+mod WritingLemmas
+mod TurnLemmas

@@ -1,8 +1,8 @@
 -- The sessions of a node, around the one with an id.
-use Rattle.std.proofs.Common.{◌≡◌, ℕ, ◌+◌, length, take, drop, get_or, Bool, true, false, List, [], ◌∷◌, ◌++◌, Option, Some, None, option_map, refl, sym, ap, ◌∙◌}
+use Rattle.std.proofs.Common.{◌≡◌, ℕ, ◌+◌, length, take, drop, get_or, true, false, List, [], ◌∷◌, ◌++◌, Option, Some, None, option_map, sym, ap, ◌∙◌}
 use Rattle.std.proofs.Math.ListN.{set}
 use Rattle.std.proofs.Math.Seq.{get_or-append_seam, set-append_seam, take-append_seam, drop-append-add}
-use Rattle.std.specs.List.{list_any, find}
+use Rattle.std.specs.List.{list_any}
 use Rattle.loop_node.specs.declared.node.Session.{Session}
 use Rattle.loop_node.specs.Sessions.{has_id, url_at, without, moved}
 use Rattle.loop_node.specs.Sizes.{IsFound}

@@ -1,5 +1,5 @@
 -- What was read of a body.
-use Rattle.std.proofs.Common.{◌≡◌, ℕ, List, length, Option, Some, None, Result, Ok, Err, IfOk, IsUtf8, refl}
+use Rattle.std.proofs.Common.{ℕ, List, length, Option, None, Result, Ok, Err, IfOk, IsUtf8}
 use Rattle.json_spans.specs.Inside.{Pair}
 use Rattle.json_spans.specs.Parts.{Part, IsCut}
 use Rattle.json_spans.specs.Cut.{Refuses}

@@ -1,5 +1,5 @@
 -- The replies around the session that was found.
-use Rattle.std.proofs.Common.{◌≡◌, ℕ, List, [], ◌∷◌, ◌++◌, get_or, Option, Some, None, Result, Ok, Err, IfOk, OnErr, refl, sym, ap, subst, ◌∙◌}
+use Rattle.std.proofs.Common.{◌≡◌, ℕ, List, ◌∷◌, ◌++◌, get_or, Option, Result, Ok, Err, IfOk, sym, ap, subst, ◌∙◌}
 use Rattle.std.proofs.Math.ListN.{set}
 use Rattle.std.proofs.Math.Seq.{get_or-append_seam, set-append_seam}
 use Rattle.grid_types.specs.Capabilities.{json_string}
@@ -10,7 +10,7 @@ use Rattle.loop_node.specs.declared.node.Session.{Session}
 use Rattle.loop_node.specs.Sessions.{Node, url_at, without}
 use Rattle.loop_node.specs.Sizes.{IsFound}
 use Rattle.loop_node.specs.Links.{IsReached, OneAnswers}
-use Rattle.loop_node.specs.Replies.{Answered, Answers, success, null_body, delete_answer, url_answer, IsMoved, Moves}
+use Rattle.loop_node.specs.Replies.{Answers, success, null_body, delete_answer, url_answer, IsMoved, Moves}
 use Rattle.loop_node.proofs.NodeLemmas.{url_is, url_at_place}
 
 deleted : (node : Node) (id : List ℕ) (place : ℕ) (reply : NodeReply) (sessions : List Session) → IsFound id node.sessions place → reply ≡ success null_body → sessions ≡ without id node.sessions →

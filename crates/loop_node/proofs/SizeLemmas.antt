@@ -1,15 +1,12 @@
 -- How long replies are, and what of a node no answer changes.
-use Rattle.std.proofs.Common.{◌≡◌, ℕ, zero, suc, ◌+◌, ◌*◌, ◌<◌, ◌≤◌, ◌/◌, ◌%◌, Bool, true, false, ◌&&◌, cond, nat_le, nat_lt, List, [], ◌∷◌, ◌++◌, length, codes, Option, Some, None, Result, Ok, Err, IfOk, OnErr, IsTrue, option_map, refl, sym, ap, subst, ◌∙◌, arith, length-append}
+use Rattle.std.proofs.Common.{◌≡◌, ℕ, zero, suc, ◌+◌, ◌*◌, ◌≤◌, ◌/◌, ◌%◌, Bool, true, false, cond, nat_le, nat_lt, List, [], ◌∷◌, ◌++◌, length, codes, Option, Some, None, Result, Ok, Err, IfOk, OnErr, IsTrue, option_map, refl, sym, ap, subst, arith, length-append}
 use Rattle.std.proofs.lemmas.Grind.{common_steps}
 use Rattle.std.proofs.lemmas.Bool.Decides.{nat_tests}
 use Rattle.std.specs.List.{list_all, find, flat_map}
 use Rattle.std.specs.Char.{digit_char}
-use Rattle.std.specs.Int.{to_be_bytes, w128}
-use Rattle.uuid.specs.Text.{hyphenated_text, lower}
 use Rattle.uuid.proofs.TextLemmas.{by_index_length}
-use Rattle.grid_types.specs.Capabilities.{json_string, escaped, short_escape, written_caps, written_member}
+use Rattle.grid_types.specs.Capabilities.{json_string, escaped, short_escape, written_caps}
 use Rattle.http_frames.specs.declared.replies.NodeReply.{NodeReply}
-use Rattle.wd_bodies.specs.declared.code.ErrorCode.TheVariants as code
 use Rattle.wd_bodies.specs.Bodies.{value_bytes, error_bytes, created_bytes}
 use Rattle.grid_outside.specs.declared.exchange.Ask.{Ask}
 use Rattle.grid_outside.specs.declared.exchange.Reply.TheVariants as exchange
@@ -20,7 +17,7 @@ use Rattle.loop_node.specs.Paths.{Asked, asked_of, new_session as start_session,
 use Rattle.loop_node.specs.Sessions.{Node, session_id, node_caps, has_id, url_at}
 use Rattle.loop_node.specs.Sizes.{is_short, has_short_url, short_texts}
 use Rattle.loop_node.specs.Reading.{url_asked}
-use Rattle.loop_node.specs.Replies.{Answered, Answers, AnswersTo, Moves, success, failure, null_body, no_session, start_answer, start_by, started_if, started, has_room, delete_answer, url_answer, move_answer, status_answer, status_json, command_answer, method_answer}
+use Rattle.loop_node.specs.Replies.{Answered, Answers, AnswersTo, Moves, success, null_body, no_session, start_answer, start_by, started_if, started, has_room, delete_answer, url_answer, move_answer, status_json, command_answer, method_answer}
 use Rattle.loop_node.proofs.ListLemmas.{left, right}
 
 -- ---- the length of a JSON string

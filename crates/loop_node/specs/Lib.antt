@@ -5,3 +5,5 @@ pub mod Replies
 pub mod Sizes
 pub mod Links
 pub mod LinkedNodes
+pub mod Serving
+pub mod Connections

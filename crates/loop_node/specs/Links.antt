@@ -1,5 +1,5 @@
 -- Loop nodes behind one link: each answers at its own address.
-use Rattle.std.specs.Prelude.{◌≡◌, ℕ, ◌==◌, Bool, true, false, List, [], ◌∷◌, ◌++◌, length, Result, Ok, Err, codes, decimal, bytes_eq}
+use Rattle.std.specs.Prelude.{◌≡◌, ℕ, ◌==◌, Bool, true, false, List, [], ◌∷◌, ◌++◌, length, Ok, Err, codes, decimal, bytes_eq}
 use Rattle.std.specs.List.{list_any}
 use Rattle.http_frames.specs.declared.replies.NodeReply.{NodeReply}
 use Rattle.grid_outside.specs.declared.exchange.Ask.{Ask}

@@ -1,5 +1,5 @@
 -- What the body of a request says to the node.
-use Rattle.std.specs.Prelude.{◌≡◌, ℕ, List, [], length, Option, Some, None, if◌then◌else◌, nat_le, codes, IsUtf8}
+use Rattle.std.specs.Prelude.{ℕ, List, length, Option, Some, None, if◌then◌else◌, nat_le, codes, IsUtf8}
 use Rattle.grid_types.specs.Capabilities.{json_string}
 use Rattle.json_spans.specs.Grammar.{Tree, word, number, text, empty_list, list, empty_object, object}
 use Rattle.json_spans.specs.Characters.{meaning}

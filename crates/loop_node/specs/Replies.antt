@@ -1,5 +1,5 @@
 -- What the node replies to each request, and what becomes of it.
-use Rattle.std.specs.Prelude.{◌≡◌, ℕ, ◌+◌, zero, suc, Bool, true, false, ◌&&◌, nat_lt, if◌then◌else◌, List, [], ◌∷◌, ◌++◌, length, Option, Some, None, unwrap_or, codes}
+use Rattle.std.specs.Prelude.{◌≡◌, ℕ, ◌+◌, zero, suc, Bool, true, false, nat_lt, List, [], ◌∷◌, ◌++◌, length, Option, Some, None, unwrap_or, codes}
 use Rattle.http.specs.StatusCode.{reason_phrase}
 use Rattle.http_frames.specs.declared.replies.NodeReply.{NodeReply}
 use Rattle.wd_bodies.specs.declared.code.ErrorCode.{ErrorCode}

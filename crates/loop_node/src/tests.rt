@@ -1,6 +1,6 @@
-use crate::{LoopList, LoopNode, LoopNodes};
-use grid_outside::{ExchangeFault, NodeLink, Reply};
-use grid_types::{NoMemory, NodeAddress, Text};
+use crate::{LoopList, LoopNode, LoopNodes, serve_node};
+use grid_outside::{ExchangeFault, MemLink, MemSink, MemSource, NodeLink, Reply};
+use grid_types::{Bytes, NoMemory, NodeAddress, Text};
 use http_frames::NodeRequest;
 use std::alloc::Global;
 use std::test::Fail;
@@ -184,5 +184,22 @@ fn nodes_are_reached_by_their_numbers(rt: HostRuntime) -> Result<(), Fail> {
         assert_eq!(rt; matches!(came, Ok(Reply::Http(_))), found);
         assert_eq!(rt; matches!(came, Err(ExchangeFault::Unreachable)), !found);
     }
+    Ok(())
+}
+
+// Two requests, the first with a client that waits for a word, and one that is refused.
+#[test]
+fn a_connection_is_served_to_a_refusal(rt: HostRuntime) -> Result<(), Fail> {
+    let alloc = rt.alloc();
+    let mut node = node(alloc)?;
+    let bytes =
+        b"POST /session HTTP/1.1\r\nExpect: 100-continue\r\nContent-Length: 2\r\n\r\n{}GET /status HTTP/1.1\r\n\r\n\0";
+    let source = MemSource::new(Bytes::of(alloc, bytes)?, 7, Vec::new(alloc));
+    let mut link = MemLink::new(source, MemSink::new(alloc, 9, Vec::new(alloc)));
+    assert_eq!(rt; serve_node(alloc, &mut node, &mut link).ok(), Some(2));
+    assert_eq!(rt;
+        link.taken(),
+        b"HTTP/1.1 100 Continue\r\n\r\nHTTP/1.1 500 Internal Server Error\r\nContent-Type: application/json; charset=utf-8\r\nCache-Control: no-cache\r\nContent-Length: 87\r\n\r\n{\"value\":{\"error\":\"session not created\",\"message\":\"refused by script\",\"stacktrace\":\"\"}}HTTP/1.1 200 OK\r\nContent-Type: application/json; charset=utf-8\r\nCache-Control: no-cache\r\nContent-Length: 46\r\n\r\n{\"value\":{\"ready\":true,\"message\":\"loop node\"}}HTTP/1.1 400 Bad Request\r\nContent-Type: application/json; charset=utf-8\r\nCache-Control: no-cache\r\nContent-Length: 84\r\nConnection: close\r\n\r\n{\"value\":{\"error\":\"invalid argument\",\"message\":\"bad request: head\",\"stacktrace\":\"\"}}".as_slice()
+    );
     Ok(())
 }

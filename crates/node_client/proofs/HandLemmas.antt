@@ -1,6 +1,6 @@
 -- What is told and handed out, by state.
-use Rattle.std.proofs.Common.{◌≡◌, ℕ, ◌<◌, Bool, true, false, List, [], ◌++◌, refl, sym, ap, subst, ◌∙◌, append-nil}
-use Rattle.std.specs.Prelude.{Some}
+use Rattle.std.proofs.Common.{◌≡◌, ℕ, ◌<◌, Bool, true, false, ◌||◌, List, [], ◌++◌, refl, sym, ap, subst, ◌∙◌, append-nil}
+use Rattle.std.specs.Prelude.{Some, is_some}
 use Rattle.grid_types.specs.declared.capabilities.Cap.{Cap}
 use Rattle.grid_types.specs.declared.entry.FailWhy.{FailWhy}
 use Rattle.grid_types.specs.declared.entry.FailWhy.TheVariants as why
@@ -28,9 +28,10 @@ use Rattle.node_client.specs.Carrying.{FailsRightly, Kind, Standing, Stands, IsI
 -- ---- the beginning
 
 pub new_start : (c : Carry) (r : Reservation) (body : List ℕ) → c.state ≡ states.Asking r body → body ≡ start_bytes r.wanted → c.short ≡ false → IsNew c r
-unfolding Stands is_fresh carry_tokens
+unfolding Stands is_fresh carry_tokens awaited held
 new_start c r body is body_is short_is = record {
   tokens = ap tokens_in is;
+  is_open = ap (λ (s : State). is_some (awaited_in s) || is_some (held_in s)) is;
   fresh = ap is_fresh_in is;
   place = at_start;
   stands = (subst (λ (s : State). IsIn s r at_start) (sym is) (refl, refl, body_is), record { leads = λ more f. f; short_is = short_is; bound_is = refl; cause = tt });
@@ -38,9 +39,10 @@ new_start c r body is body_is short_is = record {
 }
 
 pub new_lack : (c : Carry) (r : Reservation) → c.state ≡ states.ToFail r why.NoMemory → c.short ≡ true → IsNew c r
-unfolding Stands is_fresh carry_tokens
+unfolding Stands is_fresh carry_tokens awaited held
 new_lack c r is short_is = record {
   tokens = ap tokens_in is;
+  is_open = ap (λ (s : State). is_some (awaited_in s) || is_some (held_in s)) is;
   fresh = ap is_fresh_in is;
   place = at_fail why.NoMemory;
   stands = (subst (λ (s : State). IsIn s r (at_fail why.NoMemory)) (sym is) (refl, refl), record { leads = λ more f. unwritten f; short_is = short_is; bound_is = refl; cause = refl });

@@ -1,5 +1,5 @@
 -- What a `Carry` stands for, and what its calls do.
-use Rattle.std.specs.Prelude.{◌≡◌, ℕ, ◌<◌, Bool, true, false, ◌||◌, List, [], ◌∷◌, ◌++◌, Option, None, Some, Ok}
+use Rattle.std.specs.Prelude.{◌≡◌, ℕ, ◌<◌, Bool, true, false, ◌||◌, List, [], ◌∷◌, ◌++◌, Option, None, Some, is_some, Ok}
 use Rattle.grid_types.specs.declared.capabilities.Cap.{Cap}
 use Rattle.grid_types.specs.declared.entry.FailWhy.{FailWhy}
 use Rattle.grid_types.specs.declared.entry.FailWhy.TheVariants as why
@@ -132,9 +132,10 @@ IsFirst at_start = Unit {0}
 IsFirst (at_fail why.NoMemory) = Unit {0}
 IsFirst place = ⊥
 
--- a start that has made no step, holds the reservation, and may be asked what it wants
+-- a start that has made no step, holds the reservation, may be asked what it wants, and is not over
 pub record IsNew (carry : Carry) (r : Reservation) : Type 0 where
   pub tokens : carry_tokens carry ≡ of_reservation r ∷ []
+  pub is_open : (is_some (awaited carry) || is_some (held carry)) ≡ true
   pub fresh : is_fresh carry ≡ true
   pub place : Place
   pub stands : Stands carry r place []

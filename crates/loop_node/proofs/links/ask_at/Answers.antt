@@ -1,4 +1,4 @@
-use Rattle.std.proofs.Common.{◌≡◌, true, ◌∙◌, arith}
+use Rattle.std.proofs.Common.{◌∙◌, arith}
 use Rattle.grid_outside.specs.Exchanges.{ask_of}
 use Rattle.loop_node.specs.Sizes.{short_texts}
 use Rattle.loop_node.proofs.ReplyLemmas.{one_answers}

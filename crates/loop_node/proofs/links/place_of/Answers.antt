@@ -1,4 +1,4 @@
-use Rattle.std.proofs.Common.{◌≡◌, ◌+◌, true, take, drop, sym, ◌∙◌, arith}
+use Rattle.std.proofs.Common.{◌+◌, take, drop, sym, ◌∙◌, arith}
 use Rattle.std.proofs.lemmas.List.{length-take-le}
 use Rattle.loop_node.proofs.SeekLemmas.{split_at}
 use Rattle.loop_node.proofs.links.place_of.Goals as goal

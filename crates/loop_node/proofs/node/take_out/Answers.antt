@@ -1,6 +1,5 @@
-use Rattle.std.proofs.Common.{◌≡◌, true, List, sym, ap, ◌∙◌}
+use Rattle.std.proofs.Common.{ap, ◌∙◌}
 use Rattle.std.specs.List.{list_all}
-use Rattle.loop_node.specs.declared.node.Session.{Session}
 use Rattle.loop_node.specs.Sizes.{has_short_url}
 use Rattle.loop_node.proofs.NodeLemmas.{take_at}
 use Rattle.loop_node.proofs.ListLemmas.{all_but}
