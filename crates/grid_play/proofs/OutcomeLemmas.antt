@@ -1,7 +1,8 @@
 -- The outcome of the one request, and its response.
-use Rattle.std.proofs.Common.{◌≡◌, ℕ, ◌<◌, ◌^◌, List, [], ◌∷◌, ◌++◌, sym, ◌∙◌, ap, subst, arith}
+use Rattle.std.proofs.Common.{◌≡◌, ℕ, ◌+◌, ◌<◌, ◌^◌, List, [], ◌∷◌, ◌++◌, sym, ◌∙◌, ap, subst, arith}
 use Rattle.std.specs.Prelude.{true, false, is_some, Option, Some, Result, Ok, Err, IfOk}
 use Rattle.std.proofs.lemmas.Bool.{false≢true}
+use Rattle.std.proofs.Math.Nat.{min-le_right}
 use Rattle.grid_outside.specs.Memory.{clock_at}
 use Rattle.grid_types.specs.declared.entry.Change.TheVariants as change
 use Rattle.grid_types.specs.declared.entry.Outcome.{Outcome}
@@ -10,6 +11,8 @@ use Rattle.grid_types.specs.Calls.{Call, Reply}
 use Rattle.grid_types.specs.Config.{default_config}
 use Rattle.grid_types.specs.HubAnswers.{hub, after_call, moment}
 use Rattle.grid_types.specs.Laws.{ChosenFits}
+use Rattle.grid_types.specs.Permitted.{last_moment}
+use Rattle.grid_types.specs.QueueTime.{queue_time}
 use Rattle.grid_types.specs.Requests.{outcome_of}
 use Rattle.grid_types.specs.Tokens.{Ticket, Reservation}
 use Rattle.hub_core.specs.HubView.{HubView, past, ServesLocally}
@@ -23,7 +26,7 @@ use Rattle.grid_play.specs.Responses.{outcome_response, error_response}
 use Rattle.grid_play.specs.Runs.{Runs}
 use Rattle.grid_play.specs.Steps.{Step, Called}
 use Rattle.grid_play.specs.Script.{Script, created, refused}
-use Rattle.grid_play.specs.Grid.{Went, IsSound, IsNew, IsQueued, IsReady, IsYours, Started, Waited, Settles, RespondsSettled, Responds, Refuses, asking, queued_history}
+use Rattle.grid_play.specs.Grid.{Went, IsSound, IsNew, IsQueued, IsReady, IsYours, Started, Waited, Settles, RespondsSettled, Responds, Refuses, queued_history}
 use Rattle.grid_play.proofs.StepLemmas.{went_more, went_call}
 use Rattle.grid_play.proofs.StartLemmas.{caps_plain}
 use Rattle.grid_play.proofs.RoundLemmas.{exact_of}
@@ -96,33 +99,33 @@ pub settles_at_once : (t : Ticket) (o : Outcome) (g z : Grid) → Waited t (turn
 settles_at_once t o g z x = record { steps = x.steps; went = x.went; rounds = x.leads }
 
 -- a request that is queued where the hub was new
-pub queued_new : (name : List ℕ) (slots : ℕ) (browser : List ℕ) (t : Ticket) (at : ℕ) (g mid : Grid) (hub_at : HubView) → IsNew name slots g →
-    hub_at ≡ record g.hub { room = true } → at ≡ clock_at g.clock → ServesLocally hub_at (Call.enqueue (asking browser)) at (Some (Reply.queued t)) mid.hub →
+pub queued_new : (name : List ℕ) (slots : ℕ) (choices : List (List Cap)) (t : Ticket) (at : ℕ) (g mid : Grid) (hub_at : HubView) → IsNew name slots g →
+    hub_at ≡ record g.hub { room = true } → at ≡ clock_at g.clock → ServesLocally hub_at (Call.enqueue choices) at (Some (Reply.queued t)) mid.hub →
     mid.node ≡ g.node → clock_at mid.clock ≡ clock_at g.clock → IsQueued t mid
-queued_new name slots browser t at g mid hub_at n room is s node still =
-    let x = exact_of hub_at.config (past hub_at) (Call.enqueue (asking browser)) at (Reply.queued t) (past mid.hub) s.serves.answers in
+queued_new name slots choices t at g mid hub_at n room is s node still =
+    let x = exact_of hub_at.config (past hub_at) (Call.enqueue choices) at (Reply.queued t) (past mid.hub) s.serves.answers in
     let config : hub_at.config ≡ default_config = ap (λ (h : HubView). h.config) room ∙ n.config in
     let history : past hub_at ≡ first_history name slots = ap past room ∙ n.history in
     let zero_is : at ≡ 0 = is ∙ n.at in
-    let reply = subst (λ m. (hub default_config (first_history name slots) 0 (Call.enqueue (asking browser)) m).reply ≡ Reply.queued t) zero_is
-    (subst (λ H. (hub default_config H 0 (Call.enqueue (asking browser)) at).reply ≡ Reply.queued t) history
-    (subst (λ c. (hub c (past hub_at) 0 (Call.enqueue (asking browser)) at).reply ≡ Reply.queued t) config x.0)) in
-    let f = queued_first name slots (asking browser) t reply in
-    let later = x.1 ∙ ap (λ c. after_call c (past hub_at) 0 (Call.enqueue (asking browser)) at) config
-    ∙ ap (λ H. after_call default_config H 0 (Call.enqueue (asking browser)) at) history
-    ∙ ap (λ m. after_call default_config (first_history name slots) 0 (Call.enqueue (asking browser)) m) zero_is ∙ f.2 in
+    let reply = subst (λ m. (hub default_config (first_history name slots) 0 (Call.enqueue choices) m).reply ≡ Reply.queued t) zero_is
+    (subst (λ H. (hub default_config H 0 (Call.enqueue choices) at).reply ≡ Reply.queued t) history
+    (subst (λ c. (hub c (past hub_at) 0 (Call.enqueue choices) at).reply ≡ Reply.queued t) config x.0)) in
+    let f = queued_first name slots choices t reply in
+    let later = x.1 ∙ ap (λ c. after_call c (past hub_at) 0 (Call.enqueue choices) at) config
+    ∙ ap (λ H. after_call default_config H 0 (Call.enqueue choices) at) history
+    ∙ ap (λ m. after_call default_config (first_history name slots) 0 (Call.enqueue choices) m) zero_is ∙ f.2 in
     let given = s.serves.gives in
     record {
       config = s.same_config ∙ config;
       browser = name;
       slots = slots;
-      choices = asking browser;
+      choices = choices;
       history = later;
       node = node ∙ n.node;
       named = n.named;
       some = n.some;
       request = f.0;
-      bound = omega (arith, f.1);
+      bound = let within = min-le_right (0 + queue_time default_config choices) last_moment in omega (arith, f.1, within);
       may = record { is_good = given.0; is_true = given.1 };
     }
 
@@ -138,33 +141,33 @@ roomy g new xs hub_at room w = record {
   none_lacks = w.none_lacks;
 }
 
-pub responds_queued : (browser : List ℕ) (t : Ticket) (at : ℕ) (g mid new : Grid) (hub_at : HubView) (response : List ℕ) →
-    hub_at ≡ record g.hub { room = true } → at ≡ clock_at g.clock → ServesLocally hub_at (Call.enqueue (asking browser)) at (Some (Reply.queued t)) mid.hub →
-    mid.node ≡ g.node → clock_at mid.clock ≡ clock_at g.clock → mid.short ≡ g.short → RespondsSettled t response mid new → Responds browser response g new
-responds_queued browser t at g mid new hub_at response room is s node still short r =
-    let call = Called (Call.enqueue (asking browser)) at (Some (Reply.queued t)) in
+pub responds_queued : (choices : List (List Cap)) (t : Ticket) (at : ℕ) (g mid new : Grid) (hub_at : HubView) (response : List ℕ) →
+    hub_at ≡ record g.hub { room = true } → at ≡ clock_at g.clock → ServesLocally hub_at (Call.enqueue choices) at (Some (Reply.queued t)) mid.hub →
+    mid.node ≡ g.node → clock_at mid.clock ≡ clock_at g.clock → mid.short ≡ g.short → RespondsSettled t response mid new → Responds choices response g new
+responds_queued choices t at g mid new hub_at response room is s node still short r =
+    let call = Called (Call.enqueue choices) at (Some (Reply.queued t)) in
     record {
       steps = call ∷ r.steps;
       went = roomy g new (call ∷ r.steps) hub_at room (went_more (record g { hub = hub_at }) mid new (call ∷ []) r.steps
-          (went_call (record g { hub = hub_at }) mid (Call.enqueue (asking browser)) at (Some (Reply.queued t)) s node is still (λ e. short ∙ e) (λ _ d. cc)) r.went);
+          (went_call (record g { hub = hub_at }) mid (Call.enqueue choices) at (Some (Reply.queued t)) s node is still (λ e. short ∙ e) (λ _ d. cc)) r.went);
       script = λ f is_new open_after merges.
           subst (λ x. Script f (call ∷ r.steps) x) (sym r.response_is)
           (subst (λ close. Script f (call ∷ r.steps) (outcome_response t.request r.outcome close)) open_after (created at t is_new merges r.rounds));
     }
 
-pub responds_refused : (browser : List ℕ) (reply : Option Reply) (at : ℕ) (g new : Grid) (hub_at : HubView) (response : List ℕ) →
-    hub_at ≡ record g.hub { room = true } → at ≡ clock_at g.clock → ServesLocally hub_at (Call.enqueue (asking browser)) at reply new.hub →
-    new.node ≡ g.node → clock_at new.clock ≡ clock_at g.clock → new.short ≡ g.short → Refuses reply response → Responds browser response g new
-responds_refused browser reply at g new hub_at response room is s node still short r =
-    let call = Called (Call.enqueue (asking browser)) at reply in
+pub responds_refused : (choices : List (List Cap)) (reply : Option Reply) (at : ℕ) (g new : Grid) (hub_at : HubView) (response : List ℕ) →
+    hub_at ≡ record g.hub { room = true } → at ≡ clock_at g.clock → ServesLocally hub_at (Call.enqueue choices) at reply new.hub →
+    new.node ≡ g.node → clock_at new.clock ≡ clock_at g.clock → new.short ≡ g.short → Refuses reply response → Responds choices response g new
+responds_refused choices reply at g new hub_at response room is s node still short r =
+    let call = Called (Call.enqueue choices) at reply in
     record {
       steps = call ∷ [];
-      went = roomy g new (call ∷ []) hub_at room (went_call (record g { hub = hub_at }) new (Call.enqueue (asking browser)) at reply s node is still (λ e. short ∙ e)
+      went = roomy g new (call ∷ []) hub_at room (went_call (record g { hub = hub_at }) new (Call.enqueue choices) at reply s node is still (λ e. short ∙ e)
           (λ _ d. let e = sym r.reply_is ∙ d in cc));
       script = λ f is_new open_after merges.
           subst (λ x. Script f (call ∷ []) x) (sym r.response_is)
-          (subst (λ y. Script f (Called (Call.enqueue (asking browser)) at y ∷ []) (error_response r.code r.message false)) (sym r.reply_is)
-          (subst (λ close. Script f (Called (Call.enqueue (asking browser)) at (Some r.r) ∷ []) (error_response r.code r.message close)) open_after
+          (subst (λ y. Script f (Called (Call.enqueue choices) at y ∷ []) (error_response r.code r.message false)) (sym r.reply_is)
+          (subst (λ close. Script f (Called (Call.enqueue choices) at (Some r.r) ∷ []) (error_response r.code r.message close)) open_after
           (refused at r.r r.code r.message is_new merges r.error)));
     }
 

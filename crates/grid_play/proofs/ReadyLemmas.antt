@@ -8,6 +8,7 @@ use Rattle.grid_types.specs.declared.entry.Entry.{Entry}
 use Rattle.grid_types.specs.declared.entry.Change.TheVariants as change
 use Rattle.grid_types.specs.declared.names.SlotId.{SlotId}
 use Rattle.grid_types.specs.declared.capabilities.Cap.{Cap}
+use Rattle.grid_types.specs.declared.view.Standing.{Standing}
 use Rattle.grid_types.specs.declared.view.Standing.TheVariants as standing
 use Rattle.grid_types.specs.Calls.{Call, Reply}
 use Rattle.grid_types.specs.Capabilities.{request_bytes}
@@ -18,9 +19,9 @@ use Rattle.grid_types.specs.History.{after, clock}
 use Rattle.grid_types.specs.Laws.{ChosenFits}
 use Rattle.grid_types.specs.Lists.{or_else, when}
 use Rattle.grid_types.specs.Matching.{matches, meets, agrees, where_wanted, is_any_platform, is_platform_within, same_platform, same_without_case, is_family_name, same_family, is_version_word, version, platform, has_extensions}
-use Rattle.grid_types.specs.Nodes.{is_up, stands_up, stereotypes_of}
+use Rattle.grid_types.specs.Nodes.{base_of, is_suspected, is_up, stands_registered, stands_up, stereotypes_of}
 use Rattle.grid_types.specs.HubAnswers.{Answer, hub, after_call, moment, says, makes, bound, reserves, reserved}
-use Rattle.grid_types.specs.Permitted.{wanted_of, most_bytes}
+use Rattle.grid_types.specs.Permitted.{wanted_of, most_bytes, deadline_at}
 use Rattle.grid_types.specs.Requests.{outcome_of}
 use Rattle.grid_types.specs.Slots.{slot_at}
 use Rattle.grid_types.specs.Tokens.{Ticket, Reservation, reservation_of}
@@ -39,6 +40,17 @@ same_stereotype (suc n) (suc i) x y e = same_stereotype n i x y e
 up_by : (one : Bool) → stands_up (or_else (when one standing.Up) None) ≡ true → one ≡ true
 up_by true e = refl
 up_by false e = cc
+
+-- a node that is up has a base that is
+base_up : (base : Option Standing) (suspected : Bool) → stands_up (cond (stands_registered base && suspected) (Some standing.Suspect) base) ≡ true → stands_up base ≡ true
+base_up (Some standing.Up) suspected e = refl
+base_up (Some standing.Draining) true e = cc
+base_up (Some standing.Draining) false e = cc
+base_up (Some standing.Down) suspected e = cc
+base_up (Some standing.Gone) suspected e = cc
+base_up (Some standing.Suspect) true e = cc
+base_up (Some standing.Suspect) false e = cc
+base_up None suspected e = cc
 
 there : (x y : Option (List Cap)) → matches_there x y ≡ true → (wanted stereotype : List Cap) × (x ≡ Some wanted) × (y ≡ Some stereotype) × (matches wanted stereotype ≡ true)
 there (Some w) (Some s) e = (w, s, refl, refl, e)
@@ -86,7 +98,7 @@ module _ (law : ChosenFits) (b : List ℕ) (slots d : ℕ) (choices : List (List
   H3 a m = record { caller = 0; change = reserves m a } ∷ H2
 
   up_one : (n : ℕ) → is_up H2 n ≡ true → n ≡ 1
-  up_one n e = let one = up_by (nat_eq 1 n) e in grind (arith, nat_tests)
+  up_one n e = let one = up_by (nat_eq 1 n) (base_up (base_of H2 n) (is_suspected H2 n) e) in grind (arith, nat_tests)
 
   -- what fits is on the one node, and its stereotype is the node's
   fits_one : (k m : ℕ) (s : SlotId) → fits H2 1 k s m ≡ true →
@@ -94,7 +106,7 @@ module _ (law : ChosenFits) (b : List ℕ) (slots d : ℕ) (choices : List (List
   unfolding fits
   fits_one k m s e =
       let all = and_both _ (matches_slot H2 1 k s) e in
-      let up = and_both _ (is_up H2 s.node) (and_both _ _ (and_both _ _ all.0).0).0 in
+      let up = and_both _ (is_up H2 s.node) (and_both _ _ (and_both _ _ (and_both _ _ all.0).0).0).0 in
       let node = up_one s.node up.1 in
       let t = there (slice_get choices k) (slice_get (stereotypes_of H2 s.node) s.index) all.1 in
       let own = subst (λ n. slice_get (stereotypes_of H2 n) s.index ≡ Some t.1) node t.3 in
@@ -171,13 +183,14 @@ open_by false n m y t e = refl
 
 -- a request that is queued after the registration is the first
 pub queued_first : (b : List ℕ) (slots : ℕ) (choices : List (List Cap)) (t : Ticket) → (hub default_config (first_history b slots) 0 (Call.enqueue choices) 0).reply ≡ Reply.queued t →
-    (t.request ≡ 1) × (t.deadline ≡ 300_000) × (after_call default_config (first_history b slots) 0 (Call.enqueue choices) 0 ≡ queued_history b slots choices t.deadline)
+    (t.request ≡ 1) × (t.deadline ≡ deadline_at default_config choices 0) × (after_call default_config (first_history b slots) 0 (Call.enqueue choices) 0 ≡ queued_history b slots choices t.deadline)
 unfolding hub first_history
 queued_first b slots choices t e =
-    let y = makes (change.Queued 1 choices (moment 300_000) (moment 0)) (Reply.queued (record { request = 1; deadline = 300_000 })) in
+    let deadline = deadline_at default_config choices 0 in
+    let y = makes (change.Queued 1 choices (moment deadline) (moment 0)) (Reply.queued (record { request = 1; deadline = deadline })) in
     let room = nat_lt most_bytes (0 + request_bytes choices) in
     let made = open_by room 0 0 y t e in
-    let is : record { request = 1; deadline = 300_000 } ≡ t = let d = sym (ap (λ (z : Answer). z.reply) made) ∙ e in cc in (
+    let is : record { request = 1; deadline = deadline } ≡ t = let d = sym (ap (λ (z : Answer). z.reply) made) ∙ e in cc in (
       ap (λ k. k.request) (sym is),
       ap (λ k. k.deadline) (sym is),
       ap (λ (z : Answer). after (first_history b slots) 0 z.changes) made ∙ ap (λ n. queued_history b slots choices n) (ap (λ k. k.deadline) is),

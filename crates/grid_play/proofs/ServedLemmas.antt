@@ -90,8 +90,9 @@ played_one browser slots bytes name response short b a =
 length_same : {A : Type 0} (n : ℕ) (x : A) → length (replicate n x ++ []) ≡ n
 length_same n x = ap length (append-nil (replicate n x)) ∙ length-replicate n x
 
-all_four : (a b c d : Bool) → a ≡ true → b ≡ true → c ≡ true → d ≡ true → (a && b && c && d) ≡ true
-all_four a b c d p q r s = rw (p, q, r, s) refl
+-- the sizes are right, and there is no count to drain after
+all_right : (a b c d : Bool) → a ≡ true → b ≡ true → c ≡ true → d ≡ true → (a && b && c && d && true) ≡ true
+all_right a b c d p q r s = rw (p, q, r, s) refl
 
 within_least : (m n : ℕ) → m ≡ n → 1 ≤ n → nat_le 1 m ≡ true
 within_least m n e h = grind (arith, nat_tests)
@@ -102,7 +103,7 @@ within_most m n e h = grind (arith, nat_tests)
 sized : (browser : List ℕ) (slots : ℕ) → 1 ≤ slots → slots ≤ 64 → is_well_sized (first_registration browser slots) ≡ true
 sized browser slots least most =
     let size = length_same slots (node_caps browser) in
-    all_four _ _ _ _ (within_least _ slots size least) (within_most _ slots size most) (within_least slots slots refl least) (within_most slots slots refl most)
+    all_right _ _ _ _ (within_least _ slots size least) (within_most _ slots size most) (within_least slots slots refl least) (within_most slots slots refl most)
 
 first_legal : CallsStayLegal → (browser : List ℕ) (slots : ℕ) → 1 ≤ slots → slots ≤ 64 → legal default_config (first_history browser slots) ≡ true
 unfolding first_history

@@ -169,8 +169,8 @@ pub record Refuses (reply : Option Reply) (response : List ℕ) : Type 0 where
 abbrev pub asking : List ℕ → List (List Cap)
 asking browser = (text_cap (codes "browserName") browser ∷ []) ∷ []
 
--- the response to a New Session for the browser
-pub record Responds (browser response : List ℕ) (old new : Grid) : Type 0 where
+-- the response to a New Session that would be content with one of these lists
+pub record Responds (choices : List (List Cap)) (response : List ℕ) (old new : Grid) : Type 0 where
   pub steps : List Step
   pub went : Went old new steps
-  pub script : (f : Request) → IsNewSession f.0 → closes f.0 ≡ false → Merges (concat f.1) (asking browser) → Script f steps response
+  pub script : (f : Request) → IsNewSession f.0 → closes f.0 ≡ false → Merges (concat f.1) choices → Script f steps response

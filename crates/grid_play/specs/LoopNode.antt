@@ -1,5 +1,5 @@
 -- A node in memory, and how it answers.
-use Rattle.std.specs.Prelude.{◌≡◌, ℕ, ◌+◌, ◌*◌, ◌^◌, ◌<◌, List, [], ◌∷◌, ◌++◌, codes, decimal}
+use Rattle.std.specs.Prelude.{◌≡◌, ℕ, ◌+◌, ◌*◌, ◌^◌, ◌<◌, List, [], ◌∷◌, ◌++◌, None, codes, decimal}
 use Rattle.std.specs.Int.{to_be_bytes, w128}
 use Rattle.uuid.specs.Text.{hyphenated_text, lower}
 use Rattle.grid_types.specs.declared.capabilities.Cap.{Cap}
@@ -33,6 +33,7 @@ first_registration browser slots = record {
   address = codes "loop:1";
   max_sessions = slots;
   groups = record { stereotype = node_caps browser; count = slots } ∷ [];
+  drain_after = None;
 }
 
 -- the id of a node's n-th session, from 1: the UUID with the node's number in its upper 64 bits and n in its lower ones

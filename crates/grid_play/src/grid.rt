@@ -11,13 +11,15 @@ ghost use Rattle.grid_play.specs.Grid.{IsNew, IsQueued, IsReady, Rounded, Waited
 ghost use Rattle.hub_core.specs.Replies.{enqueued_reply};
 
 use crate::loop_node::{LoopNode, first_registration};
-use crate::merging::browser_choice;
 use crate::responses::{error_response, outcome_response};
 use grid_outside::{Clock, MemClock};
-use grid_types::{Bytes, HubConfig, Moment, NoMemory, Outcome, Text, chosen_is_first};
+use grid_types::{Bytes, Choices, HubConfig, Moment, NoMemory, Outcome, Text, chosen_is_first};
 use hub_core::{Binding, Enqueued, LocalHub, Polled, Registering, Reservation, Ticket};
 use std::alloc::Global;
 use wd_bodies::ErrorCode;
+
+#[cfg(test)]
+mod tests;
 
 /// Milliseconds between two polls of a request.
 const POLL_PAUSE: u64 = 15;
@@ -145,12 +147,11 @@ impl Grid {
         }
     }
 
-    /// The response to a New Session for this browser, on a connection that goes on after it.
-    pub fn respond(&mut self, alloc: Global, browser: &str) -> Result<Bytes, NoMemory>
+    /// The response to a New Session that would be content with one of these lists, on a connection that goes on after it.
+    pub fn respond(&mut self, alloc: Global, choices: Choices) -> Result<Bytes, NoMemory>
         requires { (name : List ℕ) × (slots : ℕ) × IsNew name slots self.old }
-        ensures { IfOk result (λ response. Responds browser.now response self.old self.new) }
+        ensures { IfOk result (λ response. Responds choices response self.old self.new) }
     {
-        let choices = browser_choice(alloc, browser)?;
         self.hub.room()?;
         let at = self.clock.now();
         match self.hub.enqueue(choices, at) {

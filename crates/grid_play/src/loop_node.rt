@@ -102,5 +102,6 @@ pub fn first_registration(
         address,
         max_sessions: slots,
         groups,
+        drain_after: None,
     })
 }

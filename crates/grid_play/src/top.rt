@@ -8,7 +8,7 @@ ghost use Rattle.grid_play.specs.Played.{IsBuilt};
 ghost use Rattle.grid_play.specs.Served.{IsBuiltFor, Answered, Served, Ran};
 
 use crate::grid::Grid;
-use crate::merging::wanted_browser;
+use crate::merging::{browser_choice, wanted_browser};
 use crate::streams::{ReadStop, read_all, write_all};
 use crate::words::read_words;
 use grid_outside::{Sink, Source};
@@ -61,7 +61,8 @@ fn respond(alloc: Global, browser: &str, slots: u16, wanted: &str) -> Result<Ans
     ensures { IfOk result (λ a. Answered browser.now slots wanted.now a.response a.short) }
 {
     let mut grid = Grid::new(alloc, browser, slots)?;
-    let response = grid.respond(alloc, wanted)?;
+    let choices = browser_choice(alloc, wanted)?;
+    let response = grid.respond(alloc, choices)?;
     Ok(Answer {
         response,
         short: grid.is_short(),

@@ -4,7 +4,8 @@ use Rattle.grid_types.specs.declared.config.HubConfig.{HubConfig}
 use Rattle.grid_outside.specs.Memory.{clock_at}
 use Rattle.hub_core.specs.HubView.{past}
 use Rattle.grid_play.specs.declared.grid.Grid.{Grid}
-use Rattle.grid_play.specs.Grid.{IsNew, IsSound, Responds}
+use Rattle.grid_types.specs.declared.capabilities.Cap.{Cap}
+use Rattle.grid_play.specs.Grid.{IsNew, IsSound, Responds, asking}
 use Rattle.grid_play.specs.LoopNode.{Node, Gives}
 use Rattle.grid_play.specs.Runs.{Runs, Exchanges, Still}
 use Rattle.grid_play.specs.Played.{first_history}
@@ -12,7 +13,7 @@ use Rattle.grid_play.specs.Served.{Answered}
 use Rattle.grid_play.proofs.top.respond.Goals as goal
 
 -- a new grid that responds has answered
-new-answered : (browser : List ℕ) (slots : ℕ) (wanted response : List ℕ) (old new : Grid) → IsNew browser slots old → Responds wanted response old new → Answered browser slots wanted response new.short
+new-answered : (browser : List ℕ) (slots : ℕ) (wanted response : List ℕ) (old new : Grid) → IsNew browser slots old → Responds (asking wanted) response old new → Answered browser slots wanted response new.short
 new-answered browser slots wanted response old new n r = record {
   steps = r.steps;
   history = past new.hub;
@@ -28,4 +29,5 @@ new-answered browser slots wanted response old new n r = record {
 }
 
 pub returns : goal.returns
-returns c = rw c.is_short.ensures (new-answered c.args.browser.now c.args.slots c.args.wanted.now c.in_ok-response.response _ _ c.in_ok-grid.ensures c.in_ok-response.ensures)
+returns c = rw c.is_short.ensures (new-answered c.args.browser.now c.args.slots c.args.wanted.now c.in_ok-response.response _ _ c.in_ok-grid.ensures
+    (subst (λ (choices : List (List Cap)). Responds choices c.in_ok-response.response c.in_ok-grid.grid c.respond.new.self) c.in_ok-choices.ensures c.in_ok-response.ensures))
