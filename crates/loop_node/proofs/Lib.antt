@@ -9,3 +9,4 @@ mod ReplyLemmas
 mod SizeLemmas
 mod WritingLemmas
 mod TurnLemmas
+mod StopLemmas

@@ -1,5 +1,5 @@
 -- One turn of a connection, over plain values.
-use Rattle.std.proofs.Common.{◌≡◌, ◌≢◌, ◌==◌, ℕ, ◌+◌, ◌-◌, ◌<◌, ◌≤◌, ◌⊎◌, inl, inr, Bool, true, false, not, List, [], ◌∷◌, ◌++◌, length, take, drop, Result, Ok, Err, IfOk, refl, sym, ap, subst, ◌∙◌, append_assoc, append-nil, length-append, length-drop, arith}
+use Rattle.std.proofs.Common.{◌≡◌, ◌≢◌, ◌==◌, ℕ, ◌+◌, ◌-◌, ◌<◌, ◌≤◌, ◌⊎◌, inl, inr, Bool, true, false, not, List, [], ◌∷◌, ◌++◌, length, take, drop, Result, Ok, Err, IfOk, OnErr, refl, sym, ap, subst, ◌∙◌, append_assoc, append-nil, length-append, length-drop, arith}
 use Rattle.std.proofs.lemmas.Bool.{false≢true}
 use Rattle.std.proofs.lemmas.Bool.Decides.{nat_tests}
 use Rattle.std.proofs.lemmas.List.{take-append-drop, length-take, length-take-le}
@@ -17,8 +17,8 @@ use Rattle.loop_node.specs.declared.incoming.Incoming.{Incoming}
 use Rattle.loop_node.specs.declared.incoming.TheConstants.{MOST_BYTES}
 use Rattle.loop_node.specs.Sessions.{Node}
 use Rattle.loop_node.specs.Replies.{Answers}
-use Rattle.loop_node.specs.Serving.{ask_in, reply_bytes, go_on, response_to, Serves, Waits, refusal, LastWords, Served}
-use Rattle.loop_node.specs.Connections.{LinkTold, Moved, IsLast, ServedOver, IsWaiting, ReadsOn, Serving, ServingOver, Responds, further, AfterTurn, HasRead, HasEndedHere, IsRead, work}
+use Rattle.loop_node.specs.Serving.{ask_in, reply_bytes, go_on, response_to, Serves, Waits, refusal, LastWords, Served, Spelled, IsWaiting, Words, going_on, refusing, CutShort}
+use Rattle.loop_node.specs.Connections.{LinkTold, Moved, IsLast, ServedOver, BrokenOff, ReadsOn, SpellsOn, Serving, ServingOver, Responds, further, AfterTurn, HasRead, HasEndedHere, IsRead, WroteFront, StopsAt, unanswered, answered, ReadSome, TellsFront, work}
 use Rattle.loop_node.proofs.WritingLemmas.{moved_none, moved_wrote, moved_read, rose_later}
 
 -- ---- heads
@@ -85,6 +85,7 @@ after_told node now came written rest told waits frames left k s = record {
   responses = s.responses;
   came_is = s.came_is;
   reads = s.reads;
+  spells = s.spells;
   serves = s.serves;
   written_is =
       ap (λ (w : List ℕ). w ++ further told waits) s.written_is ∙ append_assoc s.responses (go_on told) (further told waits)
@@ -114,6 +115,12 @@ reads_one stays came front rest requests n h parts le w goes reads = λ more oth
       inr (goes, subst (λ (at : ℕ). FramesFrom LIMITS at (drop n rest ++ more) others end) (place_behind front rest more n le) f),
     ))
 
+spells_one : Stays → (came rest : List ℕ) (requests : List Request) (h : RequestHead) (parts : List (List ℕ)) (behind : List ℕ) → IsWhole LIMITS rest h parts behind → SpellsOn came rest requests →
+    SpellsOn came behind (requests ++ (h, parts) ∷ [])
+spells_one stays came rest requests h parts behind w spells = λ more others last k.
+    subst (λ (rs : List Request). Spelled (came ++ more) rs last) (sym (append_assoc requests ((h, parts) ∷ []) others))
+    (spells more ((h, parts) ∷ others) last (behind ++ more, stays LIMITS rest more h parts behind w, k))
+
 serves_one : (node now new : Node) (requests : List Request) (responses : List ℕ) (r : Request) (reply : NodeReply) → Answers now (ask_in r) reply new →
     ((more : List Request) (written : List ℕ) (last : Node) → Serves now more written last → Serves node (requests ++ more) (responses ++ written) last) →
     (more : List Request) (written : List ℕ) (last : Node) → Serves new more written last → Serves node ((requests ++ r ∷ []) ++ more) ((responses ++ response_to r reply) ++ written) last
@@ -137,6 +144,7 @@ after_reply stays node now new came written rest told frames left n h parts repl
   responses = s.responses ++ response_to (h, parts) reply;
   came_is = s.came_is ∙ ap (λ (r : List ℕ). s.front ++ r) (sym (take-append-drop n rest)) ∙ sym (append_assoc s.front (take n rest) (drop n rest));
   reads = reads_one stays came s.front rest s.requests n h parts le w goes s.reads;
+  spells = spells_one stays came rest s.requests h parts (drop n rest) w s.spells;
   serves = serves_one node now new s.requests s.responses (h, parts) reply answers s.serves;
   written_is = written_one s.responses written rest told h parts (drop n rest) reply k w s.written_is ∙ sym (append-nil (s.responses ++ response_to (h, parts) reply));
   told_is = λ e. absurd (false≢true e);
@@ -218,6 +226,9 @@ after_piece node now came written rest told frames left later piece e s = record
   reads = λ more others end f.
       subst (λ (b : List ℕ). Frames LIMITS b (s.requests ++ others) end) (sym (append_assoc came piece more))
       (s.reads (piece ++ more) others end (subst (λ (t : List ℕ). FramesFrom LIMITS (length s.front) t others end) (append_assoc rest piece more) f));
+  spells = λ more others last k.
+      subst (λ (b : List ℕ). Spelled b (s.requests ++ others) last) (sym (append_assoc came piece more))
+      (s.spells (piece ++ more) others last (subst (λ (t : List ℕ). Spelled t others last) (append_assoc rest piece more) k));
   serves = s.serves;
   written_is = s.written_is;
   told_is = λ t. waiting_more rest piece (s.told_is t);
@@ -246,6 +257,7 @@ over_new node start incoming b l f t = record {
     responses = [];
     came_is = refl;
     reads = λ more others end k. k;
+    spells = λ more others last k. k;
     serves = λ more further new k. k;
     written_is = refl;
     told_is = λ e. absurd (false≢true e);
@@ -393,3 +405,126 @@ some_items xs n l e = λ h. let k = ap length h in false≢true (sym e ∙ (grin
 pub at_last : (goes : Bool) (first now : Node) (start after : LinkTold) (incoming : Incoming) → not goes ≡ true → AfterTurn goes first now start after incoming → ServedOver first now start after incoming.frames
 at_last true first now start after incoming e a = absurd (false≢true e)
 at_last false first now start after incoming e a = a
+
+-- ---- a fault
+
+-- the requests so far were answered, and of these words a front was written
+cut_words : (node now : Node) (came written rest : List ℕ) (told : Bool) (frames left : ℕ) (piece words all unwritten : List ℕ) → (s : Serving node now came written rest told frames left) →
+    Words (rest ++ piece) words → all ++ unwritten ≡ s.responses ++ words → CutShort node now (came ++ piece) all
+cut_words node now came written rest told frames left piece words all unwritten s w e = record {
+  requests = s.requests;
+  rest = rest ++ piece;
+  responses = s.responses;
+  words = words;
+  unwritten = unwritten;
+  spelled =
+      subst (λ (rs : List Request). Spelled (came ++ piece) rs (rest ++ piece)) (append-nil s.requests)
+      (s.spells piece [] (rest ++ piece) refl);
+  serves =
+      subst (λ (rs : List Request). Serves node rs s.responses now) (append-nil s.requests)
+      (subst (λ (x : List ℕ). Serves node (s.requests ++ []) x now) (append-nil s.responses) (s.serves [] [] now (refl, refl)));
+  words_are = w;
+  written_is = e;
+}
+
+-- the request at the front was answered too, and a front of its response was written
+cut_answer : Stays → (node now new : Node) (came written rest : List ℕ) (told : Bool) (frames left : ℕ) (h : RequestHead) (parts : List (List ℕ)) (behind : List ℕ) (reply : NodeReply) (front unwritten : List ℕ) →
+    Waits rest told → IsWhole LIMITS rest h parts behind → Answers now (ask_in (h, parts)) reply new → front ++ unwritten ≡ reply_bytes reply (closes h) →
+    Serving node now came written rest told frames left → CutShort node new came (written ++ front)
+cut_answer stays node now new came written rest told frames left h parts behind reply front unwritten k w answers e s = record {
+  requests = s.requests ++ (h, parts) ∷ [];
+  rest = behind ++ [];
+  responses = s.responses ++ response_to (h, parts) reply;
+  words = [];
+  unwritten = unwritten;
+  spelled =
+      subst (λ (b : List ℕ). Spelled b (s.requests ++ (h, parts) ∷ []) (behind ++ [])) (append-nil came)
+      (s.spells [] ((h, parts) ∷ []) (behind ++ []) (behind ++ [], stays LIMITS rest [] h parts behind w, refl));
+  serves =
+      subst (λ (rs : List Request). Serves node rs (s.responses ++ response_to (h, parts) reply) new) (append-nil (s.requests ++ (h, parts) ∷ []))
+      (subst (λ (x : List ℕ). Serves node ((s.requests ++ (h, parts) ∷ []) ++ []) x new) (append-nil (s.responses ++ response_to (h, parts) reply))
+      (serves_one node now new s.requests s.responses (h, parts) reply answers s.serves [] [] new (refl, refl)));
+  words_are = going_on false (λ t. absurd (false≢true t));
+  written_is =
+      append_assoc written front unwritten ∙ ap (λ (x : List ℕ). written ++ x) e
+      ∙ written_one s.responses written rest told h parts behind reply k w s.written_is
+      ∙ sym (append-nil (s.responses ++ response_to (h, parts) reply));
+}
+
+-- a front of the words behind the rest was written
+cut_front : (node now : Node) (came written rest : List ℕ) (told : Bool) (frames left : ℕ) (words : List ℕ) (front unwritten due : List ℕ) → (s : Serving node now came written rest told frames left) →
+    Words rest due → front ++ unwritten ≡ words → written ++ words ≡ s.responses ++ due → CutShort node now came (written ++ front)
+cut_front node now came written rest told frames left words front unwritten due s w e f =
+    subst (λ (b : List ℕ). CutShort node now b (written ++ front)) (append-nil came)
+    (cut_words node now came written rest told frames left [] due (written ++ front) unwritten s (subst (λ (t : List ℕ). Words t due) (sym (append-nil rest)) w)
+    (append_assoc written front unwritten ∙ ap (λ (x : List ℕ). written ++ x) e ∙ f))
+
+-- after a read that failed, or whose piece found no memory
+broken_read : (first now : Node) (start before after : LinkTold) (old : Incoming) → ReadSome before after → ServingOver first now start before old → BrokenOff first now start after
+broken_read first now start before after old r s = record {
+  bytes = s.came ++ r.piece;
+  written = s.written;
+  moved = moved_read start before after s.came s.written r.piece s.moved r.moved;
+  cut_short =
+      cut_words first now s.came s.written old.bytes.items old.told old.frames old.left r.piece (go_on old.told) s.written [] s.serving
+      (going_on old.told (λ t. waiting_more old.bytes.items r.piece (s.serving.told_is t)))
+      (append-nil s.written ∙ s.serving.written_is);
+}
+
+pub broken_first : {E : Type 0} (r : Result Bool E) (now : Node) (before after : LinkTold) (old : Incoming) → OnErr r (ReadSome before after) →
+    OnErr r ((first : Node) (start : LinkTold) → ServingOver first now start before old → BrokenOff first now start after)
+broken_first (Ok goes) now before after old h = tt
+broken_first (Err f) now before after old h = λ first start s. broken_read first now start before after old h s
+
+pub broken_further : {E : Type 0} (r : Result Bool E) (now : Node) (before middle after : LinkTold) (old told : Incoming) → told.bytes ≡ old.bytes → told.left ≡ old.left → told.frames ≡ old.frames →
+    Waits old.bytes.items told.told → Moved before middle [] (further old.told told.told) → OnErr r (ReadSome middle after) →
+    OnErr r ((first : Node) (start : LinkTold) → ServingOver first now start before old → BrokenOff first now start after)
+broken_further (Ok goes) now before middle after old told b l f k m h = tt
+broken_further (Err e) now before middle after old told b l f k m h = λ first start s.
+    broken_read first now start middle after told h (over_told first now start before middle old told b l f k m s)
+
+-- after a write that failed, of what tells a client to go on
+pub broken_tell : (first now : Node) (start before after : LinkTold) (old : Incoming) → TellsFront old.bytes.items old.told before after → ServingOver first now start before old → BrokenOff first now start after
+broken_tell first now start before after old t s = record {
+  bytes = s.came;
+  written = s.written ++ t.wrote.front;
+  moved = moved_wrote start before after s.came s.written t.wrote.front s.moved t.wrote.moved;
+  cut_short =
+      cut_front first now s.came s.written old.bytes.items old.told old.frames old.left (further old.told t.waits) t.wrote.front t.wrote.unwritten (go_on t.waits) s.serving
+      (going_on t.waits (λ e. t.exact.only e)) t.wrote.are
+      (ap (λ (w : List ℕ). w ++ further old.told t.waits) s.serving.written_is ∙ append_assoc s.serving.responses (go_on old.told) (further old.told t.waits)
+      ∙ ap (λ (w : List ℕ). s.serving.responses ++ w) (told_more old.told t.waits (λ e. told_same old.bytes.items t.waits (s.serving.told_is e) t.exact)));
+}
+
+-- of a refusal
+pub broken_refusal : (first now : Node) (start before after : LinkTold) (old : Incoming) (why : FrameFault) → Waits old.bytes.items old.told → IsRefused LIMITS old.bytes.items why → WroteFront before after (refusal why) →
+    ServingOver first now start before old → BrokenOff first now start after
+broken_refusal first now start before after old why k r w s = record {
+  bytes = s.came;
+  written = s.written ++ w.front;
+  moved = moved_wrote start before after s.came s.written w.front s.moved w.moved;
+  cut_short =
+      cut_front first now s.came s.written old.bytes.items old.told old.frames old.left (refusal why) w.front w.unwritten (go_on old.told ++ refusal why) s.serving
+      (refusing why old.told k r) w.are
+      (ap (λ (x : List ℕ). x ++ refusal why) s.serving.written_is ∙ append_assoc s.serving.responses (go_on old.told) (refusal why));
+}
+
+broken_unanswered : (first now : Node) (start before after : LinkTold) (old : Incoming) → Moved before after [] [] → ServingOver first now start before old → BrokenOff first now start after
+broken_unanswered first now start before after old m s = broken_read first now start before after old (record { piece = []; moved = m }) s
+
+-- of a response, or before it was made
+pub broken_response : Stays → (first now new : Node) (start before after : LinkTold) (old : Incoming) (h : RequestHead) (parts : List (List ℕ)) (behind : List ℕ) → Waits old.bytes.items old.told →
+    IsWhole LIMITS old.bytes.items h parts behind → StopsAt now new (h, parts) before after → ServingOver first now start before old → BrokenOff first new start after
+broken_response stays first now new start before after old h parts behind k w (unanswered same m) s =
+    subst (λ (n : Node). BrokenOff first n start after) (sym same) (broken_unanswered first now start before after old m s)
+broken_response stays first now new start before after old h parts behind k w (answered reply answers wrote) s = record {
+  bytes = s.came;
+  written = s.written ++ wrote.front;
+  moved = moved_wrote start before after s.came s.written wrote.front s.moved wrote.moved;
+  cut_short =
+      cut_answer stays first now new s.came s.written old.bytes.items old.told old.frames old.left h parts behind reply wrote.front wrote.unwritten k w answers wrote.are s.serving;
+}
+
+pub on_err : {T E : Type 0} {P : Type 0} (r : Result T E) → P → OnErr r P
+on_err (Ok x) p = tt
+on_err (Err e) p = p

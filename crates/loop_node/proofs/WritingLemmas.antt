@@ -10,7 +10,7 @@ use Rattle.grid_outside.specs.Counts.{Rose}
 use Rattle.grid_outside.specs.Told.{Gains}
 use Rattle.grid_outside.specs.Exchanges.{lent}
 use Rattle.loop_node.specs.Serving.{value_line, reply_bytes}
-use Rattle.loop_node.specs.Connections.{LinkTold, Later, Moved}
+use Rattle.loop_node.specs.Connections.{LinkTold, Later, Moved, WroteFront}
 
 -- ---- what is told gains piece by piece
 
@@ -105,5 +105,9 @@ response_told (Ok bytes) reply reason body kind coding cache close r b k e c h =
 response_told (Err f) reply reason body kind coding cache close r b k e c h = tt
 
 -- what is told stays
-pub same_given : (a b c : Option (List ℕ)) → Gains a b [] → c ≡ b → Gains a c []
-same_given a b c h e = subst (λ t. Gains a t []) (sym e) h
+pub same_given : (a b c : Option (List ℕ)) (more : List ℕ) → Gains a b more → c ≡ b → Gains a c more
+same_given a b c more h e = subst (λ t. Gains a t more) (sym e) h
+
+-- nothing was written
+pub wrote_nothing : (a : LinkTold) (bytes : List ℕ) → WroteFront a a bytes
+wrote_nothing a bytes = record { front = []; unwritten = bytes; are = refl; moved = moved_none a }

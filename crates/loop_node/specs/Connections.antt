@@ -3,8 +3,7 @@ use Rattle.std.specs.Prelude.{◌≡◌, ℕ, ◌+◌, ◌*◌, ◌≤◌, ◌<�
 use Rattle.grid_outside.specs.Counts.{Rose}
 use Rattle.grid_outside.specs.Told.{Gains}
 use Rattle.http_frames.specs.declared.frames.TheConstants.{LIMITS}
-use Rattle.httparse.specs.Grammar.{RequestHead}
-use Rattle.http_frames.specs.Frames.{Request, End, closed, asked, cut, refused, Frames, FramesFrom, closes, IsAccepted, expects}
+use Rattle.http_frames.specs.Frames.{Request, End, closed, asked, cut, refused, Frames, FramesFrom, closes}
 use Rattle.loop_node.specs.declared.incoming.Incoming.{Incoming}
 use Rattle.loop_node.specs.declared.incoming.TheConstants.{MOST_BYTES}
 use Rattle.loop_node.specs.declared.serving.NodeFault.{NodeFault}
@@ -12,7 +11,7 @@ use Rattle.loop_node.specs.declared.serving.NodeFault.TheVariants as stop
 use Rattle.loop_node.specs.Sessions.{Node}
 use Rattle.http_frames.specs.declared.replies.NodeReply.{NodeReply}
 use Rattle.loop_node.specs.Replies.{Answers}
-use Rattle.loop_node.specs.Serving.{Serves, Served, go_on, ask_in, reply_bytes}
+use Rattle.loop_node.specs.Serving.{Serves, Served, CutShort, Spelled, IsWaiting, Waits, go_on, ask_in, reply_bytes}
 
 -- what a link has told, and its counts
 pub record LinkTold : Type 0 where
@@ -60,6 +59,30 @@ pub record Responds (node new : Node) (r : Request) (before after : LinkTold) : 
 abbrev pub further : Bool → Bool → List ℕ
 further told waits = if told then [] else go_on waits
 
+-- a front of these bytes was written
+pub record WroteFront (before after : LinkTold) (bytes : List ℕ) : Type 0 where
+  pub front : List ℕ
+  pub unwritten : List ℕ
+  pub are : front ++ unwritten ≡ bytes
+  pub moved : Moved before after [] front
+
+-- a response was not written whole, or was not made
+pub data StopsAt (node new : Node) (r : Request) (before after : LinkTold) : Type 0 where
+  unanswered : new ≡ node → Moved before after [] [] → StopsAt node new r before after
+  answered : (reply : NodeReply) → Answers node (ask_in r) reply new
+      → WroteFront before after (reply_bytes reply (closes r.0)) → StopsAt node new r before after
+
+-- so many bytes were read, and nothing was written
+pub record ReadSome (before after : LinkTold) : Type 0 where
+  pub piece : List ℕ
+  pub moved : Moved before after piece []
+
+-- a front of what tells the client to go on was written
+pub record TellsFront (bytes : List ℕ) (told : Bool) (before after : LinkTold) : Type 0 where
+  pub waits : Bool
+  pub exact : Waits bytes waits
+  pub wrote : WroteFront before after (further told waits)
+
 -- an end of input was answered, or no more bytes are read
 abbrev pub IsLast : ℕ → LinkTold → LinkTold → Type 0
 IsLast bytes old new = (bytes ≡ MOST_BYTES) ⊎ Rose old.ends new.ends
@@ -81,6 +104,13 @@ pub record ServedOver (node new : Node) (old now : LinkTold) (frames : ℕ) : Ty
   pub served : Served node new bytes written frames end
   pub ended : HasEnded end (length bytes) old now
 
+-- a fault cut the connection short
+pub record BrokenOff (node new : Node) (old now : LinkTold) : Type 0 where
+  pub bytes : List ℕ
+  pub written : List ℕ
+  pub moved : Moved old now bytes written
+  pub cut_short : CutShort node new bytes written
+
 -- whatever follows, these requests stand in front of what stands in the rest
 abbrev pub ReadsOn : List ℕ → List ℕ → List ℕ → List Request → Type 0
 ReadsOn bytes front rest requests =
@@ -88,9 +118,11 @@ ReadsOn bytes front rest requests =
     → FramesFrom LIMITS (length front) (rest ++ more) others end
     → Frames LIMITS (bytes ++ more) (requests ++ others) end
 
--- a client waits behind these bytes
-abbrev pub IsWaiting : List ℕ → Type 0
-IsWaiting bytes = (h : RequestHead) × IsAccepted LIMITS bytes h × (expects LIMITS h ≡ true)
+-- the same, of the requests alone
+abbrev pub SpellsOn : List ℕ → List ℕ → List Request → Type 0
+SpellsOn bytes rest requests =
+    (more : List ℕ) (others : List Request) (last : List ℕ)
+    → Spelled (rest ++ more) others last → Spelled (bytes ++ more) (requests ++ others) last
 
 -- the requests so far are answered, and the rest is not
 pub record Serving (node now : Node) (came written : List ℕ) (rest : List ℕ) (told : Bool) (frames left : ℕ) : Type 0 where
@@ -99,6 +131,7 @@ pub record Serving (node now : Node) (came written : List ℕ) (rest : List ℕ)
   pub responses : List ℕ
   pub came_is : came ≡ front ++ rest
   pub reads : ReadsOn came front rest requests
+  pub spells : SpellsOn came rest requests
   pub serves : (more : List Request) (further : List ℕ) (new : Node) → Serves now more further new → Serves node (requests ++ more) (responses ++ further) new
   pub written_is : written ≡ responses ++ go_on told
   pub told_is : told ≡ true → IsWaiting rest

@@ -6,7 +6,7 @@ use Rattle.http_frames.specs.declared.FrameFault.TheVariants as fault
 use Rattle.http_frames.specs.declared.frames.TheConstants.{LIMITS}
 use Rattle.http_frames.specs.declared.replies.NodeReply.{NodeReply}
 use Rattle.http_frames.specs.Chunks.{joined}
-use Rattle.http_frames.specs.Frames.{Request, End, closed, asked, cut, refused, Frames, IsAccepted, expects, closes}
+use Rattle.http_frames.specs.Frames.{Request, End, closed, asked, cut, refused, Frames, IsAccepted, IsRefused, IsWhole, expects, closes}
 use Rattle.http_frames.specs.Writing.{field_line, length_line, has_no_body}
 use Rattle.wd_bodies.specs.declared.code.ErrorCode.TheVariants as code
 use Rattle.grid_outside.specs.declared.exchange.Ask.{Ask}
@@ -81,8 +81,11 @@ fault_text fault.BodyTooLong = codes "bad request: body too long"
 fault_text fault.OtherCoding = codes "bad request: coding"
 
 -- the response to a request that is refused, behind which the connection closes
+abbrev pub refused_reply : FrameFault → NodeReply
+refused_reply why = failure code.InvalidArgument (fault_text why)
+
 abbrev pub refusal : FrameFault → List ℕ
-refusal why = reply_bytes (failure code.InvalidArgument (fault_text why)) true
+refusal why = reply_bytes (refused_reply why) true
 
 -- what is written behind the last whole request
 abbrev pub LastWords : List ℕ → End → List ℕ → Type 0
@@ -102,3 +105,31 @@ pub record Served (node new : Node) (bytes written : List ℕ) (frames : ℕ) (e
   pub serves : Serves node requests responses new
   pub last_is : LastWords bytes end last
   pub written_is : written ≡ responses ++ last
+
+-- the bytes spell these requests, one after the other, and then comes the rest
+abbrev pub Spelled : List ℕ → List Request → List ℕ → Type 0
+Spelled bytes [] rest = rest ≡ bytes
+Spelled bytes (r ∷ requests) rest =
+    (behind : List ℕ) × IsWhole LIMITS bytes r.0 r.1 behind × Spelled behind requests rest
+
+-- a client waits behind these bytes
+abbrev pub IsWaiting : List ℕ → Type 0
+IsWaiting bytes = (h : RequestHead) × IsAccepted LIMITS bytes h × (expects LIMITS h ≡ true)
+
+-- what may be written for the rest
+pub data Words (rest : List ℕ) : List ℕ → Type 0 where
+  going_on : (told : Bool) → (told ≡ true → IsWaiting rest) → Words rest (go_on told)
+  refusing : (why : FrameFault) (waits : Bool) → Waits rest waits → IsRefused LIMITS rest why
+      → Words rest (go_on waits ++ refusal why)
+
+-- these bytes came, the node answered the requests in front, and of what is due then a front was written
+pub record CutShort (node new : Node) (bytes written : List ℕ) : Type 0 where
+  pub requests : List Request
+  pub rest : List ℕ
+  pub responses : List ℕ
+  pub words : List ℕ
+  pub unwritten : List ℕ
+  pub spelled : Spelled bytes requests rest
+  pub serves : Serves node requests responses new
+  pub words_are : Words rest words
+  pub written_is : written ++ unwritten ≡ responses ++ words

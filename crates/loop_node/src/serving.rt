@@ -1,7 +1,7 @@
 //! Serving the node over one connection.
-ghost use Rattle.std.specs.Prelude.{◌≡◌, ℕ, ◌<◌, ◌≤◌, true, false, List, length, IfOk, IfErr, OnOk};
+ghost use Rattle.std.specs.Prelude.{◌≡◌, ℕ, ◌<◌, ◌≤◌, true, false, List, length, IfOk, IfErr, OnOk, OnErr};
 ghost use Rattle.loop_node.specs.Sessions.{Node};
-ghost use Rattle.loop_node.specs.Connections.{LinkTold, told_by, Later, Blames, ServedOver, ServingOver, AfterTurn, IsRead, work};
+ghost use Rattle.loop_node.specs.Connections.{LinkTold, told_by, Later, Blames, ServedOver, ServingOver, BrokenOff, AfterTurn, IsRead, ReadSome, work};
 
 use crate::incoming::Incoming;
 use crate::node::LoopNode;
@@ -31,6 +31,10 @@ pub fn serve_node<L: Link>(
     link: &mut L,
 ) -> Result<u64, NodeFault>
     ensures ok { IfOk result (ServedOver node.old node.new
+        (told_by L.given L.taken L.ends L.read_faults L.write_faults link.old)
+        (told_by L.given L.taken L.ends L.read_faults L.write_faults link.new)) }
+    // After a fault a front of what is due was written.
+    ensures broken { OnErr result (BrokenOff node.old node.new
         (told_by L.given L.taken L.ends L.read_faults L.write_faults link.old)
         (told_by L.given L.taken L.ends L.read_faults L.write_faults link.new)) }
     ensures later { Later
@@ -63,6 +67,11 @@ fn turn<L: Link>(
         → AfterTurn goes first node.new start
         (told_by L.given L.taken L.ends L.read_faults L.write_faults link.new) incoming.new) }
     ensures less { IfOk result (λ goes. goes ≡ true → work incoming.new < work incoming.old) }
+    ensures broken { OnErr result ((first : Node) (start : LinkTold)
+        → ServingOver first node.old start
+        (told_by L.given L.taken L.ends L.read_faults L.write_faults link.old) incoming.old
+        → BrokenOff first node.new start
+        (told_by L.given L.taken L.ends L.read_faults L.write_faults link.new)) }
     ensures later { Later
         (told_by L.given L.taken L.ends L.read_faults L.write_faults link.old)
         (told_by L.given L.taken L.ends L.read_faults L.write_faults link.new) }
@@ -94,6 +103,9 @@ fn turn<L: Link>(
 /// Reads a piece, and says whether there was one: none after the most bytes and at the end of input.
 fn read_more<L: Link>(link: &mut L, incoming: &mut Incoming) -> Result<bool, NodeFault>
     ensures ok { IfOk result (λ goes. IsRead goes incoming.old incoming.new
+        (told_by L.given L.taken L.ends L.read_faults L.write_faults link.old)
+        (told_by L.given L.taken L.ends L.read_faults L.write_faults link.new)) }
+    ensures some { OnErr result (ReadSome
         (told_by L.given L.taken L.ends L.read_faults L.write_faults link.old)
         (told_by L.given L.taken L.ends L.read_faults L.write_faults link.new)) }
     ensures later { Later

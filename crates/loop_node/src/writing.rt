@@ -1,5 +1,5 @@
 // Writing to a client.
-ghost use Rattle.std.specs.Prelude.{◌≡◌, ℕ, ◌≤◌, ◌<◌, ◌++◌, List, [], length, take, true, IfOk, IfErr, OnOk};
+ghost use Rattle.std.specs.Prelude.{◌≡◌, ℕ, ◌≤◌, ◌<◌, ◌++◌, List, [], length, take, true, IfOk, IfErr, OnOk, OnErr};
 ghost use Rattle.http_frames.specs.Frames.{Request, closes};
 ghost use Rattle.httparse.specs.Grammar.{RequestHead};
 ghost use Rattle.http_frames.specs.FrameSteps.{IsFrame, HoldsParts};
@@ -7,8 +7,8 @@ ghost use Rattle.http_frames.specs.Chunks.{joined};
 ghost use Rattle.http_frames.specs.declared.frames.TheConstants.{LIMITS};
 ghost use Rattle.grid_outside.specs.Exchanges.{lent};
 ghost use Rattle.loop_node.specs.Replies.{Answers};
-ghost use Rattle.loop_node.specs.Serving.{plain_ask, reply_bytes, fault_text, refusal, Waits, go_on};
-ghost use Rattle.loop_node.specs.Connections.{told_by, Moved, Later, Blames, Responds, further};
+ghost use Rattle.loop_node.specs.Serving.{plain_ask, reply_bytes, fault_text, refused_reply, refusal, Waits, go_on};
+ghost use Rattle.loop_node.specs.Connections.{told_by, Moved, Later, Blames, Responds, WroteFront, StopsAt, TellsFront, further};
 
 use crate::incoming::Incoming;
 use crate::node::LoopNode;
@@ -28,6 +28,9 @@ fn write_all<L: Link>(link: &mut L, bytes: &[u8]) -> Result<(), NodeFault>
     ensures ok { OnOk result (Moved
         (told_by L.given L.taken L.ends L.read_faults L.write_faults link.old)
         (told_by L.given L.taken L.ends L.read_faults L.write_faults link.new) [] bytes.now) }
+    ensures front { OnErr result (WroteFront
+        (told_by L.given L.taken L.ends L.read_faults L.write_faults link.old)
+        (told_by L.given L.taken L.ends L.read_faults L.write_faults link.new) bytes.now) }
     ensures later { Later
         (told_by L.given L.taken L.ends L.read_faults L.write_faults link.old)
         (told_by L.given L.taken L.ends L.read_faults L.write_faults link.new) }
@@ -73,6 +76,32 @@ fn response_of(alloc: Global, reply: &NodeReply, close: bool) -> Result<Bytes, N
     )
 }
 
+/// Writes a reply as a response, or a front of it.
+fn write_reply<L: Link>(
+    alloc: Global,
+    link: &mut L,
+    reply: &NodeReply,
+    close: bool,
+) -> Result<(), NodeFault>
+    ensures ok { OnOk result (Moved
+        (told_by L.given L.taken L.ends L.read_faults L.write_faults link.old)
+        (told_by L.given L.taken L.ends L.read_faults L.write_faults link.new) [] (reply_bytes reply.now close)) }
+    ensures front { OnErr result (WroteFront
+        (told_by L.given L.taken L.ends L.read_faults L.write_faults link.old)
+        (told_by L.given L.taken L.ends L.read_faults L.write_faults link.new) (reply_bytes reply.now close)) }
+    ensures later { Later
+        (told_by L.given L.taken L.ends L.read_faults L.write_faults link.old)
+        (told_by L.given L.taken L.ends L.read_faults L.write_faults link.new) }
+    ensures err { IfErr result (λ why. Blames why
+        (told_by L.given L.taken L.ends L.read_faults L.write_faults link.old)
+        (told_by L.given L.taken L.ends L.read_faults L.write_faults link.new)) }
+{
+    match response_of(alloc, reply, close) {
+        Ok(bytes) => write_all(link, bytes.as_bytes()),
+        Err(NoMemory) => Err(NodeFault::Memory),
+    }
+}
+
 /// What of the parts is still to come, in one piece.
 fn joined(alloc: Global, parts: Parts<'_>) -> Result<Bytes, NoMemory>
     ensures { (all : List (List ℕ)) → HoldsParts parts.entry all → IfOk result (λ bytes. bytes ≡ joined all) }
@@ -92,7 +121,8 @@ fn reply_to<'a>(
     target: &'a [u8],
     body: &'a [u8],
 ) -> Result<NodeReply, NoMemory>
-    ensures { IfOk result (λ reply. Answers node.old (plain_ask method.now target.now body.now) reply node.new) }
+    ensures answers { IfOk result (λ reply. Answers node.old (plain_ask method.now target.now body.now) reply node.new) }
+    ensures err { OnErr result (node.new ≡ node.old) }
 {
     let request = NodeRequest {
         method,
@@ -117,6 +147,10 @@ pub(crate) fn respond<L: Link>(
         → Responds node.old node.new (h, parts)
         (told_by L.given L.taken L.ends L.read_faults L.write_faults link.old)
         (told_by L.given L.taken L.ends L.read_faults L.write_faults link.new)) }
+    ensures stops { OnErr result ((h : RequestHead) (parts : List (List ℕ)) → IsFrame LIMITS h parts frame.now
+        → StopsAt node.old node.new (h, parts)
+        (told_by L.given L.taken L.ends L.read_faults L.write_faults link.old)
+        (told_by L.given L.taken L.ends L.read_faults L.write_faults link.new)) }
     ensures later { Later
         (told_by L.given L.taken L.ends L.read_faults L.write_faults link.old)
         (told_by L.given L.taken L.ends L.read_faults L.write_faults link.new) }
@@ -128,10 +162,7 @@ pub(crate) fn respond<L: Link>(
         return Err(NodeFault::Memory);
     };
     match reply_to(alloc, node, frame.method, frame.target, body.as_bytes()) {
-        Ok(reply) => match response_of(alloc, &reply, frame.closes) {
-            Ok(bytes) => write_all(link, bytes.as_bytes()),
-            Err(NoMemory) => Err(NodeFault::Memory),
-        },
+        Ok(reply) => write_reply(alloc, link, &reply, frame.closes),
         Err(NoMemory) => Err(NodeFault::Memory),
     }
 }
@@ -150,12 +181,11 @@ fn fault_text(why: FrameFault) -> &'static str
     }
 }
 
-/// The response to a request that is refused.
-fn refusal(alloc: Global, why: FrameFault) -> Result<Bytes, NoMemory>
-    ensures { IfOk result (λ bytes. bytes ≡ refusal why) }
+/// The reply to a request that is refused.
+fn refused_reply(alloc: Global, why: FrameFault) -> Result<NodeReply, NoMemory>
+    ensures { IfOk result (λ reply. reply ≡ refused_reply why) }
 {
-    let reply = failure(alloc, ErrorCode::InvalidArgument, fault_text(why))?;
-    response_of(alloc, &reply, true)
+    failure(alloc, ErrorCode::InvalidArgument, fault_text(why))
 }
 
 /// Refuses what stands at the front of the bytes.
@@ -163,6 +193,9 @@ pub(crate) fn refuse<L: Link>(alloc: Global, link: &mut L, why: FrameFault) -> R
     ensures ok { OnOk result (Moved
         (told_by L.given L.taken L.ends L.read_faults L.write_faults link.old)
         (told_by L.given L.taken L.ends L.read_faults L.write_faults link.new) [] (refusal why)) }
+    ensures front { OnErr result (WroteFront
+        (told_by L.given L.taken L.ends L.read_faults L.write_faults link.old)
+        (told_by L.given L.taken L.ends L.read_faults L.write_faults link.new) (refusal why)) }
     ensures later { Later
         (told_by L.given L.taken L.ends L.read_faults L.write_faults link.old)
         (told_by L.given L.taken L.ends L.read_faults L.write_faults link.new) }
@@ -170,8 +203,8 @@ pub(crate) fn refuse<L: Link>(alloc: Global, link: &mut L, why: FrameFault) -> R
         (told_by L.given L.taken L.ends L.read_faults L.write_faults link.old)
         (told_by L.given L.taken L.ends L.read_faults L.write_faults link.new)) }
 {
-    match refusal(alloc, why) {
-        Ok(bytes) => write_all(link, bytes.as_bytes()),
+    match refused_reply(alloc, why) {
+        Ok(reply) => write_reply(alloc, link, &reply, true),
         Err(NoMemory) => Err(NodeFault::Memory),
     }
 }
@@ -181,6 +214,9 @@ fn tell_once<L: Link>(link: &mut L, told: bool, waits: bool) -> Result<(), NodeF
     ensures ok { OnOk result (Moved
         (told_by L.given L.taken L.ends L.read_faults L.write_faults link.old)
         (told_by L.given L.taken L.ends L.read_faults L.write_faults link.new) [] (further told waits)) }
+    ensures front { OnErr result (WroteFront
+        (told_by L.given L.taken L.ends L.read_faults L.write_faults link.old)
+        (told_by L.given L.taken L.ends L.read_faults L.write_faults link.new) (further told waits)) }
     ensures later { Later
         (told_by L.given L.taken L.ends L.read_faults L.write_faults link.old)
         (told_by L.given L.taken L.ends L.read_faults L.write_faults link.new) }
@@ -204,6 +240,9 @@ pub(crate) fn tell<L: Link>(link: &mut L, incoming: &mut Incoming) -> Result<(),
     ensures ok { OnOk result (Moved
         (told_by L.given L.taken L.ends L.read_faults L.write_faults link.old)
         (told_by L.given L.taken L.ends L.read_faults L.write_faults link.new) [] (further incoming.old.told incoming.new.told)) }
+    ensures front { OnErr result (TellsFront incoming.old.bytes.items incoming.old.told
+        (told_by L.given L.taken L.ends L.read_faults L.write_faults link.old)
+        (told_by L.given L.taken L.ends L.read_faults L.write_faults link.new)) }
     ensures later { Later
         (told_by L.given L.taken L.ends L.read_faults L.write_faults link.old)
         (told_by L.given L.taken L.ends L.read_faults L.write_faults link.new) }

@@ -1,5 +1,5 @@
 use Rattle.std.proofs.Common.{rules}
-use Rattle.loop_node.proofs.TurnLemmas.{over_new, at_last}
+use Rattle.loop_node.proofs.TurnLemmas.{over_new, at_last, on_err}
 use Rattle.loop_node.proofs.serving.serve_node.Goals as goal
 
 pub turns-init : goal.turns-init
@@ -8,3 +8,6 @@ turns-init g c = over_new c.args.node.now _ c.new-incoming.result c.new-incoming
 pub returns-then-not-goes-clause-ok : goal.returns-then-not-goes-clause-ok
 returns-then-not-goes-clause-ok g c =
     at_last c.in_ok-goes.goes c.args.node.now c.turn.new.node _ _ c.turn.new.incoming (search rules) (c.in_ok-goes.ensures.ok c.args.node.now _ c.turns.invariant)
+
+pub returns-in_err-goes-clause-broken : goal.returns-in_err-goes-clause-broken
+returns-in_err-goes-clause-broken g c = on_err c.from_residual.result (c.in_err-goes.ensures.broken c.args.node.now _ c.turns.invariant)

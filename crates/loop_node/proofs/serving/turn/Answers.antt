@@ -2,7 +2,7 @@ use Rattle.std.proofs.Common.{ℕ, List, length, drop, sym, subst, ap, ◌∙◌
 use Rattle.http_frames.specs.declared.frames.TheConstants.{LIMITS}
 use Rattle.http_frames.specs.Frames.{IsWhole, IsRefused, IsAwaited}
 use Rattle.loop_node.specs.Serving.{Waits}
-use Rattle.loop_node.proofs.TurnLemmas.{spelled_some, over_told, after_whole, after_refused, read_first, read_further, whole_less, no_items, some_items}
+use Rattle.loop_node.proofs.TurnLemmas.{spelled_some, over_told, after_whole, after_refused, read_first, read_further, whole_less, no_items, some_items, on_err, broken_first, broken_tell, broken_response, broken_refusal, broken_further}
 use Rattle.loop_node.proofs.serving.turn.Goals as goal
 
 pub returns-then-is_empty-clause-ok : goal.returns-then-is_empty-clause-ok
@@ -55,3 +55,34 @@ returns-in-More-clause-ok g c =
     (λ e. some (ap (λ v. v.items) (sym told.bytes) ∙ e))
     (subst (λ (b : List ℕ). IsAwaited LIMITS b c.in-More.expects) c.as_slice.ensures.value c.in-More.ensures.awaits)
     c.read_more-in-More.ensures.ok
+
+pub returns-then-is_empty-clause-broken : goal.returns-then-is_empty-clause-broken
+returns-then-is_empty-clause-broken g c = broken_first c.read_more.result c.args.node.now _ _ c.args.incoming.now c.read_more.ensures.some
+
+pub returns-in_err-tell-clause-broken : goal.returns-in_err-tell-clause-broken
+returns-in_err-tell-clause-broken g c = on_err c.from_residual.result (λ first start s. broken_tell first c.args.node.now start _ _ c.args.incoming.now c.in_err-tell.ensures.front s)
+
+pub returns-in_err-respond-in-Whole-clause-broken : goal.returns-in_err-respond-in-Whole-clause-broken
+returns-in_err-respond-in-Whole-clause-broken g c = on_err c.from_residual-in_err-respond-in-Whole.result (λ first start s.
+    let whole = c.in-Whole.ensures.whole.1 in
+    let told = c.in_ok-tell.ensures in
+    let n = c.in-Whole.len in
+    let waits = subst (λ v. Waits v.items c.tell.new.incoming.told) (sym told.bytes) told.waits in
+    let is_whole = subst (λ (b : List ℕ). IsWhole LIMITS b whole.0 whole.1 (drop n b)) c.as_slice.ensures.value whole.4 in
+    broken_response c.stays.ensures.whole first c.args.node.now c.respond.new.node start _ _ c.tell.new.incoming whole.0 whole.1 _ waits is_whole
+    (c.in_err-respond-in-Whole.ensures.stops whole.0 whole.1 whole.5)
+    (over_told first c.args.node.now start _ _ c.args.incoming.now c.tell.new.incoming told.bytes told.left told.frames told.waits told.ok s))
+
+pub returns-in_err-refuse-in-Refused-clause-broken : goal.returns-in_err-refuse-in-Refused-clause-broken
+returns-in_err-refuse-in-Refused-clause-broken g c = on_err c.from_residual-in_err-refuse-in-Refused.result (λ first start s.
+    let told = c.in_ok-tell.ensures in
+    broken_refusal first c.args.node.now start _ _ c.tell.new.incoming c.in-Refused.why
+    (subst (λ v. Waits v.items c.tell.new.incoming.told) (sym told.bytes) told.waits)
+    (subst (λ (b : List ℕ). IsRefused LIMITS b c.in-Refused.why) c.as_slice.ensures.value c.in-Refused.ensures.refused)
+    c.in_err-refuse-in-Refused.ensures.front
+    (over_told first c.args.node.now start _ _ c.args.incoming.now c.tell.new.incoming told.bytes told.left told.frames told.waits told.ok s))
+
+pub returns-in-More-clause-broken : goal.returns-in-More-clause-broken
+returns-in-More-clause-broken g c =
+    let told = c.in_ok-tell.ensures in
+    broken_further c.read_more-in-More.result c.args.node.now _ _ _ c.args.incoming.now c.tell.new.incoming told.bytes told.left told.frames told.waits told.ok c.read_more-in-More.ensures.some
