@@ -15,6 +15,10 @@ mod turn;
 mod undoing;
 mod wants;
 
+pub use calling::{Asked, Calling};
+pub use creating::Creating;
+pub use deleting::{Deleting, Quitted};
+pub use relaying::Relaying;
 pub use request::Whole;
 pub use responses::refusal;
 pub use routing::first_turn;
