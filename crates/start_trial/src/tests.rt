@@ -208,6 +208,7 @@ fn chrome_node(alloc: Global, name: &str) -> Result<Registration, NoMemory>
         name: Text::of(alloc, name)?,
         address: NodeAddress::from_bytes(name.as_bytes()).ok_or(NoMemory)?,
         max_sessions: 1,
+        drain_after: None,
         groups,
     })
 }

@@ -1,0 +1,14 @@
+mod TurnLemmas
+mod ElseLemmas
+mod CallLemmas
+mod AnswerLemmas
+mod DeleteLemmas
+mod RelayLemmas
+mod CreateLemmas
+mod UndoLemmas
+mod PassLemmas
+mod OverLemmas
+mod MoveLemmas
+mod WantLemmas
+mod StartLemmas
+mod RouteLemmas

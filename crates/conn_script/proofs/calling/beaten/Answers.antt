@@ -1,0 +1,14 @@
+use Rattle.std.proofs.Common.{refl, ap}
+use Rattle.std.specs.Prelude.{codes}
+use Rattle.grid_types.specs.Calls.{Reply}
+use Rattle.hub_core.specs.Replies.{beating_reply}
+use Rattle.conn_script.specs.Responses.{success}
+use Rattle.conn_script.specs.Messages.{node_response, no_such_node}
+use Rattle.conn_script.proofs.TurnLemmas.{responds}
+use Rattle.conn_script.proofs.calling.beaten.Goals as goal
+
+pub returns-in-Beaten : goal.returns-in-Beaten
+returns-in-Beaten c = responds (beating_reply c.args.answer) node_response Reply.beaten (success (codes "null")) c.args.close c.success.result (ap beating_reply c.in-Beaten.is) refl c.success.ensures
+
+pub returns-in-NoNode : goal.returns-in-NoNode
+returns-in-NoNode c = responds (beating_reply c.args.answer) node_response Reply.no_node no_such_node c.args.close c.no_such_node.result (ap beating_reply c.in-NoNode.is) refl c.no_such_node.ensures

@@ -1,0 +1,8 @@
+use Rattle.conn_script.proofs.CreateLemmas.{poll_else}
+use Rattle.conn_script.proofs.creating.polled.Goals as goal
+
+pub returns-in-Poll-clause-turns : goal.returns-in-Poll-clause-turns
+returns-in-Poll-clause-turns c = rw c.in-Poll.is c.poll_told.ensures.turns
+
+pub returns-in_default-clause-turns : goal.returns-in_default-clause-turns
+returns-in_default-clause-turns c = poll_else c.args.request c.args.answer c.unanswered.result c.args.close c.requires c.in_default.not-Poll c.unanswered.ensures.turn

@@ -1,0 +1,8 @@
+use Rattle.conn_script.proofs.StartLemmas.{bind_answered, fail_answered}
+use Rattle.conn_script.proofs.creating.start_answered.Goals as goal
+
+pub returns-in-Bind-clause-turns : goal.returns-in-Bind-clause-turns
+returns-in-Bind-clause-turns c = rw c.in-Bind.is (bind_answered c.args.ticket c.args.carry c.in-Bind.binding c.start_told.result c.start_told.ensures.turns)
+
+pub returns-in-Fail-clause-turns : goal.returns-in-Fail-clause-turns
+returns-in-Fail-clause-turns c = rw c.in-Fail.is (fail_answered c.args.ticket c.args.carry c.in-Fail.failing c.start_told-in-Fail.result c.start_told-in-Fail.ensures.turns)

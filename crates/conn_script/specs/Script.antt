@@ -1,0 +1,66 @@
+-- Which steps a request calls for, and its response.
+use Rattle.std.specs.Prelude.{◌≡◌, ℕ, List, [], ◌++◌, Result, Ok, Err}
+use Rattle.std.specs.List.{concat}
+use Rattle.http_frames.specs.Frames.{Request}
+use Rattle.grid_types.specs.Calls.{Call}
+use Rattle.router_core.specs.declared.routed.RouteFault.{RouteFault}
+use Rattle.router_core.specs.declared.routed.RouteFault.TheVariants as fault
+use Rattle.router_core.specs.Routes.{Route, new_session, delete_session, relay, status, queue, clear_queue, register, remove, drain, beat, route_of}
+use Rattle.node_client.specs.Steps.{Step}
+use Rattle.conn_script.specs.Responses.{Response}
+use Rattle.conn_script.specs.Messages.{unknown_command, unknown_method, status_response, queue_response, clear_response}
+use Rattle.conn_script.specs.OneCall.{OneCall, CallLacks, NodeCall, NodeCallLacks, Registers, RegisterLacks}
+use Rattle.conn_script.specs.DeleteSession.{DeleteSession, DeleteLacks}
+use Rattle.conn_script.specs.Relay.{Relay, RelayLacks, relayed}
+use Rattle.conn_script.specs.NewSession.{NewSession, EnqueueLacks}
+use Rattle.conn_script.specs.Undo.{Undoes}
+
+-- the request's body, its chunks joined
+abbrev pub body_of : Request → List ℕ
+body_of f = concat f.1
+
+-- the steps and the response, by the route
+abbrev pub ByRoute : Result Route RouteFault → Request → List Step → Response → Type 0
+ByRoute (Err fault.UnknownCommand) f steps response = (steps ≡ []) × (response ≡ unknown_command)
+ByRoute (Err fault.UnknownMethod) f steps response = (steps ≡ []) × (response ≡ unknown_method)
+ByRoute (Err fault.Memory) f steps response = ⊥
+ByRoute (Ok new_session) f steps response = NewSession (body_of f) steps response
+ByRoute (Ok (delete_session id)) f steps response = DeleteSession id steps response
+ByRoute (Ok (relay id target)) f steps response = Relay (relayed f target) id steps response
+ByRoute (Ok status) f steps response = OneCall Call.view status_response steps response
+ByRoute (Ok queue) f steps response = OneCall Call.view queue_response steps response
+ByRoute (Ok clear_queue) f steps response = OneCall Call.clear clear_response steps response
+ByRoute (Ok register) f steps response = Registers (body_of f) steps response
+ByRoute (Ok (remove id)) f steps response = NodeCall Call.remove id steps response
+ByRoute (Ok (drain id)) f steps response = NodeCall Call.drain id steps response
+ByRoute (Ok (beat id)) f steps response = NodeCall Call.beat id steps response
+
+abbrev pub route : Request → Result Route RouteFault
+route f = route_of f.0.method f.0.target
+
+-- the steps of a request, and its response
+unfoldable pub Script : Request → List Step → Response → Type 0
+Script f steps response = ByRoute (route f) f steps response
+
+-- ---- want of memory after which a script does not go on
+
+-- at a step, by the route
+abbrev pub StepLacks : Result Route RouteFault → Request → List Step → Type 0
+StepLacks (Err fault) f steps = ⊥
+StepLacks (Ok new_session) f steps = EnqueueLacks (body_of f) steps
+StepLacks (Ok (delete_session id)) f steps = DeleteLacks id steps
+StepLacks (Ok (relay id target)) f steps = RelayLacks (relayed f target) id steps
+StepLacks (Ok status) f steps = CallLacks Call.view steps
+StepLacks (Ok queue) f steps = CallLacks Call.view steps
+StepLacks (Ok clear_queue) f steps = CallLacks Call.clear steps
+StepLacks (Ok register) f steps = RegisterLacks (body_of f) steps
+StepLacks (Ok (remove id)) f steps = NodeCallLacks Call.remove id steps
+StepLacks (Ok (drain id)) f steps = NodeCallLacks Call.drain id steps
+StepLacks (Ok (beat id)) f steps = NodeCallLacks Call.beat id steps
+
+-- The steps of a request that want of memory ended: before its first step, at a step, or behind all, where its response
+-- could not be built, and what that calls for was done. No token is left.
+pub data Lacks (f : Request) : List Step → Type 0 where
+  before_all : Lacks f []
+  at_step : {steps : List Step} → StepLacks (route f) f steps → Lacks f steps
+  behind_all : (steps undone : List Step) (response : Response) → Script f steps response → Undoes response undone → Lacks f (steps ++ undone)

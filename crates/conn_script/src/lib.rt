@@ -1,0 +1,30 @@
+//! What a request to the hub calls for: its calls of the hub, its exchanges with nodes and its pauses, one after the other, and
+//! its response. Each answer is taken by a function of its own, which does nothing outside itself and says what comes next.
+#![tactic(auto)]
+
+mod calling;
+mod creating;
+mod deleting;
+mod messages;
+mod relaying;
+mod request;
+mod responses;
+mod routing;
+mod running;
+mod turn;
+mod undoing;
+mod wants;
+
+pub use calling::{Asked, Calling};
+pub use creating::Creating;
+pub use deleting::{Deleting, Quitted};
+pub use relaying::Relaying;
+pub use request::Whole;
+pub use responses::refusal;
+pub use routing::first_turn;
+pub use turn::{Run, Turn};
+pub use undoing::Undoing;
+pub use wants::{Answer, ConnFault, End, HubAnswer, HubCall, LIMIT, PAUSE, PIECE, Served, Want};
+
+#[cfg(test)]
+mod tests;

@@ -1,0 +1,125 @@
+//! What is wanted of a driver, and what it answers.
+use grid_outside::{ExchangeFault, Reply};
+use grid_types::{
+    Caps, Choices, FailWhy, Found, NoMemory, NodeAddress, NodeNo, Registration, ReqNo, SessionId,
+    Spent, View,
+};
+use http_frames::{FrameFault, NodeRequest};
+use hub_core::{
+    Beating, Binding, Closing, Draining, Ending, Enqueued, Failing, Polled, Registering, Removal,
+    Reservation, Ticket, Touching,
+};
+
+/// The longest piece that is read at once, in bytes.
+pub const PIECE: u64 = 65_536;
+
+/// How many bytes are read on a connection.
+pub const LIMIT: u64 = 1 << 40;
+
+/// Milliseconds between two polls of a request.
+pub const PAUSE: u64 = 15;
+
+/// How a connection was served to its end.
+#[derive(Clone, Copy, Debug, PartialEq, Eq)]
+pub struct Served {
+    /// The whole requests that were answered.
+    pub frames: u64,
+    pub end: End,
+    /// Whether it went on after a want of memory.
+    pub short: bool,
+}
+
+/// How a connection ended. A place is that in its bytes where the request begins.
+#[derive(Clone, Copy, Debug, PartialEq, Eq)]
+pub enum End {
+    /// The input ended behind a whole request.
+    Closed,
+    /// A request asked for it.
+    Asked,
+    Refused { why: FrameFault, at: u64 },
+    /// The input ended inside a request.
+    Cut { at: u64 },
+    /// As many bytes were read as are read on a connection.
+    Limit,
+    HubSpent,
+}
+
+/// Why a connection was not served to its end.
+#[derive(Clone, Copy, Debug, PartialEq, Eq)]
+pub enum ConnFault {
+    Read,
+    Write,
+    Memory,
+}
+
+/// A call of the hub. The driver adds its caller and the moment.
+#[derive(Debug, Drop)]
+pub enum HubCall {
+    Register(Registration),
+    Beat(NodeNo),
+    Drain(NodeNo),
+    Remove(NodeNo),
+    Enqueue(Choices),
+    Poll(Ticket),
+    Bind(Reservation, SessionId, Caps),
+    Fail(Reservation, FailWhy),
+    Lookup(SessionId),
+    Touch(SessionId, ReqNo),
+    End(SessionId, ReqNo),
+    Freed(Closing),
+    Clear,
+    View,
+}
+
+/// What the hub answered.
+#[derive(Debug, Drop)]
+pub enum HubAnswer {
+    Register(Registering),
+    Beat(Beating),
+    Drain(Draining),
+    Remove(Removal),
+    Enqueue(Enqueued),
+    Poll(Polled),
+    Bind(Binding),
+    Fail(Failing),
+    Lookup(Found),
+    Touch(Touching),
+    End(Ending),
+    Freed,
+    Clear(u32),
+    View(Result<View, NoMemory>),
+    /// The hub takes no more calls. Tokens that were handed in are void.
+    Spent(Spent),
+    /// There was no memory to make the call.
+    NoRoom,
+}
+
+/// What is wanted. Slices lie in the connection's own memory.
+#[derive(Clone, Copy, Debug)]
+pub enum Want<'a> {
+    /// To read a piece of at most so many bytes.
+    Read(u32),
+    Write(&'a [u8]),
+    /// To do what goes before each request.
+    Begin,
+    /// To make the call that `hub_call` hands out.
+    Hub,
+    Node(NodeAddress, NodeRequest<'a>),
+    /// To wait for so many milliseconds.
+    Pause(u64),
+    Done(Result<Served, ConnFault>),
+}
+
+/// What came of a want.
+#[derive(Debug, Drop)]
+pub enum Answer<'a> {
+    Bytes(&'a [u8]),
+    EndOfInput,
+    ReadFailed,
+    Wrote(usize),
+    WriteFailed,
+    Begun,
+    Hub(HubAnswer),
+    Node(Result<Reply, ExchangeFault>),
+    Paused,
+}
