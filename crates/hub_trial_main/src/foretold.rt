@@ -8,16 +8,16 @@ use crate::foretold::sweeping::{clear, sweep};
 use crate::foretold::viewing::view;
 use crate::scene::Scene;
 use grid_types::{
-    Caps, Change, Choices, EndCause, Moment, NodeAddress, NodeNo, Outcome, Registration,
-    ReqNo, SessionId, SlotId, request_bytes, time_to_wait,
+    Caps, Change, Choices, EndCause, Moment, NodeAddress, NodeNo, Outcome, Registration, ReqNo,
+    SessionId, SlotId, request_bytes, time_to_wait,
 };
 use hub_trial::{
     Answer, Call, Closed, Fault, caps_of, cause_of, choices_of, registration_of, session_of,
 };
 use hub_twin::{
     Running, Settled, asked_of, bound_of, chosen, deadline_of, idle_binding, is_base_up,
-    is_draining, is_registered, is_supported, is_taken, listed_node, live, next_node,
-    next_request, node_named, outcome_of, unsettled_bytes, unsettled_count,
+    is_draining, is_registered, is_supported, is_taken, listed_node, live, next_node, next_request,
+    node_named, outcome_of, unsettled_bytes, unsettled_count,
 };
 use std::alloc::Global;
 

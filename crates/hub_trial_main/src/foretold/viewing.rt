@@ -3,8 +3,8 @@ use crate::scene::Scene;
 use grid_types::{NodeNo, NodeView, NodeViews, SlotId, SlotViews, View, WaitViews};
 use hub_trial::{Answer, Fault};
 use hub_twin::{
-    has_ready_node, listed_node, registration_of, slot_count, slot_state,
-    standing_of, wait_view, waiting_request,
+    has_ready_node, listed_node, registration_of, slot_count, slot_state, standing_of, wait_view,
+    waiting_request,
 };
 use std::alloc::Global;
 
