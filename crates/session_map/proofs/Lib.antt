@@ -4,3 +4,4 @@ pub mod Ends
 pub mod Steps
 pub mod Idle
 pub mod Others
+pub mod Placeholders

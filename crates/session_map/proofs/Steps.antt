@@ -18,7 +18,7 @@ use Rattle.session_map.specs.declared.live_map.LiveSession.{LiveSession}
 use Rattle.session_map.specs.declared.live_map.LiveMap.{LiveMap}
 use Rattle.grid_types.specs.Tables.{entry}
 use Rattle.session_map.specs.Names.{session_cmp, session_eq}
-use Rattle.session_map.specs.Table.{Stands, Quiet}
+use Rattle.session_map.specs.Table.{Stands, Quiet, place_in}
 use Rattle.session_map.proofs.Rows.{session-Bound, session-Touched, session-Ended, session-Lapsed, place-Bound, place-Lapsed, touch_row, stays, place_stays}
 use Rattle.session_map.proofs.Ends.{place-Ended, place-Ended_none}
 
@@ -56,7 +56,7 @@ quiet-filter old new p before rows same b x h =
 pub stands-Bound : (c : HubConfig) (H : List Entry) (k r : ℕ) (t : SlotId) (y : List ℕ) (cs : List Cap) (at : Moment) (address : List ℕ) (old new : LiveMap) →
     Stands old H → address ≡ address_of H t.node → legal c (entry k (change.Bound r t y cs at) ∷ H) ≡ true →
     ((b : ℕ) → get nat_eq new.sessions b ≡ cond (nat_eq r b) (Some (record { session = y; slot = t; active = at })) (get nat_eq old.sessions b)) →
-    ((s : List ℕ) → tree.get session_cmp new.places s ≡ cond (session_eq y s) (Some (record { slot = t; address = address; binding = r })) (tree.get session_cmp old.places s)) →
+    ((s : List ℕ) → place_in new s ≡ cond (session_eq y s) (Some (record { slot = t; address = address; binding = r })) (place_in old s)) →
     Quiet new → IsUnique nat_eq new.sessions → tree.IsOrdered session_cmp new.places → Stands new (entry k (change.Bound r t y cs at) ∷ H)
 stands-Bound c H k r t y cs at address old new s where_it_is l sessions places quiet u v = record {
   sessions = λ b. sessions b ∙ (rw (s.sessions b) (sym (session-Bound H k r t y cs at b)));
@@ -68,7 +68,7 @@ stands-Bound c H k r t y cs at address old new s where_it_is l sessions places q
 
 pub stands-Touched : (H : List Entry) (k q : ℕ) (at : Moment) (old new : LiveMap) → Stands old H →
     ((b : ℕ) → get nat_eq new.sessions b ≡ cond (nat_eq q b) (touch_row at (get nat_eq old.sessions b)) (get nat_eq old.sessions b)) →
-    ((s : List ℕ) → tree.get session_cmp new.places s ≡ tree.get session_cmp old.places s) →
+    ((s : List ℕ) → place_in new s ≡ place_in old s) →
     Quiet new → IsUnique nat_eq new.sessions → tree.IsOrdered session_cmp new.places → Stands new (entry k (change.Touched q at) ∷ H)
 stands-Touched H k q at old new s sessions places quiet u v = record {
   sessions = λ b. sessions b ∙ (rw (s.sessions b) (sym (session-Touched H k q at b)));
@@ -81,7 +81,7 @@ stands-Touched H k q at old new s sessions places quiet u v = record {
 pub stands-Ended : (c : HubConfig) (H : List Entry) (k q : ℕ) (cause : EndCause) (at : Moment) (row : LiveSession) (old new : LiveMap) → Stands old H →
     legal c (entry k (change.Ended q cause at) ∷ H) ≡ true → get nat_eq old.sessions q ≡ Some row →
     ((b : ℕ) → get nat_eq new.sessions b ≡ cond (nat_eq q b) None (get nat_eq old.sessions b)) →
-    ((s : List ℕ) → tree.get session_cmp new.places s ≡ cond (session_eq row.session s) None (tree.get session_cmp old.places s)) →
+    ((s : List ℕ) → place_in new s ≡ cond (session_eq row.session s) None (place_in old s)) →
     Quiet new → IsUnique nat_eq new.sessions → tree.IsOrdered session_cmp new.places → Stands new (entry k (change.Ended q cause at) ∷ H)
 stands-Ended c H k q cause at row old new s l there sessions places quiet u v = record {
   sessions = λ b. sessions b ∙ (rw (s.sessions b) (sym (session-Ended H k q cause at b)));
@@ -94,7 +94,7 @@ stands-Ended c H k q cause at row old new s l there sessions places quiet u v = 
 pub stands-Ended_none : (c : HubConfig) (H : List Entry) (k q : ℕ) (cause : EndCause) (at : Moment) (old new : LiveMap) → Stands old H →
     legal c (entry k (change.Ended q cause at) ∷ H) ≡ true → get nat_eq old.sessions q ≡ None →
     ((b : ℕ) → get nat_eq new.sessions b ≡ cond (nat_eq q b) None (get nat_eq old.sessions b)) →
-    ((s : List ℕ) → tree.get session_cmp new.places s ≡ tree.get session_cmp old.places s) →
+    ((s : List ℕ) → place_in new s ≡ place_in old s) →
     Quiet new → IsUnique nat_eq new.sessions → tree.IsOrdered session_cmp new.places → Stands new (entry k (change.Ended q cause at) ∷ H)
 stands-Ended_none c H k q cause at old new s l there sessions places quiet u v = record {
   sessions = λ b. sessions b ∙ (rw (s.sessions b) (sym (session-Ended H k q cause at b)));
@@ -107,7 +107,7 @@ stands-Ended_none c H k q cause at old new s l there sessions places quiet u v =
 pub stands-Lapsed : (c : HubConfig) (H : List Entry) (k n : ℕ) (at : Moment) (old new : LiveMap) → Stands old H →
     legal c (entry k (change.Lapsed n at) ∷ H) ≡ true →
     ((b : ℕ) → get nat_eq new.sessions b ≡ option_filter (stays n) (get nat_eq old.sessions b)) →
-    ((s : List ℕ) → tree.get session_cmp new.places s ≡ option_filter (place_stays n) (tree.get session_cmp old.places s)) →
+    ((s : List ℕ) → place_in new s ≡ option_filter (place_stays n) (place_in old s)) →
     Quiet new → IsUnique nat_eq new.sessions → tree.IsOrdered session_cmp new.places → Stands new (entry k (change.Lapsed n at) ∷ H)
 stands-Lapsed c H k n at old new s l sessions places quiet u v = record {
   sessions = λ b. sessions b ∙ (rw (s.sessions b) (sym (session-Lapsed H k n at b)));

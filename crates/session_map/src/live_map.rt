@@ -1,11 +1,13 @@
-ghost use Rattle.std.specs.Prelude.{◌≡◌, ℕ, List, [], OnOk, OnErr, not, nat_eq, nat_lt, nat_le, option_map, unwrap_or, map, filter, ◌-◌, min};
+ghost use Rattle.std.specs.Prelude.{◌≡◌, ℕ, List, [], IsOk, OnOk, OnErr, not, nat_eq, nat_lt, nat_le, option_map, unwrap_or, map, filter, ◌-◌, min};
 ghost use Rattle.std.specs.List.{reduce};
 ghost use Rattle.grid_types.specs.declared.entry.Change.TheVariants as change;
 ghost use Rattle.grid_types.specs.Lists.{least};
 ghost use Rattle.grid_types.specs.Nodes.{address_of};
 ghost use Rattle.grid_types.specs.Sessions.{live, found_of};
 ghost use Rattle.grid_types.specs.Tables.{Follows, FollowsGiven, Keeps, Tells};
-ghost use Rattle.session_map.specs.Table.{Stands, NotesUse, RemovesPlace, earliest_use, running, idle_bindings};
+ghost use Rattle.session_map.specs.Table.{Stands, HasRoomFor, NotesUse, RemovesPlace, earliest_use, running, idle_bindings};
+
+mod ahead;
 
 use crate::session_key::SessionKey;
 use grid_types::{
@@ -50,12 +52,13 @@ fn earliest_use_of(sessions: &IndexMap<ReqNo, LiveSession>) -> Option<u64>
 }
 
 /// The live sessions. A session is kept under its binding, which the hub numbers itself, and under its id, which
-/// comes from a node. No session was used last before `quiet_since`, so that as a rule no session need be looked at
-/// to tell that none is idle.
+/// comes from a node. What `places` has for the session of `placeholder` is its room, and no place. No session was used
+/// last before `quiet_since`, so that as a rule no session need be looked at to tell that none is idle.
 #[derive(Drop)]
 pub struct LiveMap {
     sessions: IndexMap<ReqNo, LiveSession>,
     places: BTreeMap<SessionKey, Place>,
+    placeholder: Option<SessionId>,
     quiet_since: Moment,
 }
 
@@ -67,6 +70,7 @@ impl LiveMap {
         LiveMap {
             sessions: IndexMap::new(alloc),
             places: BTreeMap::new(alloc),
+            placeholder: None,
             quiet_since: Moment(0),
         }
     }
@@ -75,6 +79,9 @@ impl LiveMap {
     pub fn find(&self, session: &SessionId) -> Found
         ensures { Tells Stands self.now (λ H. result ≡ found_of (live H session.now)) }
     {
+        if self.is_placeholder(session) {
+            return Found::NoSession;
+        }
         match self.places.get(&SessionKey::of(*session)) {
             Some(place) => Found::At {
                 slot: place.slot,
@@ -85,7 +92,7 @@ impl LiveMap {
         }
     }
 
-    /// A session was bound: it is live from now on. Without memory all stays as it is.
+    /// A session was bound: it is live from now on. Without memory all stays as it is. After `ready` there is memory.
     pub fn bound(
         &mut self,
         request: ReqNo,
@@ -97,6 +104,7 @@ impl LiveMap {
     ) -> Result<(), NoMemory>
         ensures stands { OnOk result ((caller : ℕ) → FollowsGiven Stands (λ H. address ≡ address_of H slot.node) self.old self.new caller (change.Bound request slot session _caps.now at)) }
         ensures refused { OnErr result (Keeps Stands self.old self.new) }
+        ensures sure { HasRoomFor self.old session → IsOk result }
     {
         self.sessions.reserve(1)?;
         let place = Place {
@@ -107,6 +115,7 @@ impl LiveMap {
         if self.places.insert(SessionKey::of(session), place).is_err() {
             return Err(NoMemory);
         }
+        self.fill_placeholder(&session);
         let live = LiveSession {
             session,
             slot,

@@ -51,3 +51,28 @@ fn sessions_come_and_go(rt: HostRuntime) -> Result<(), Fail> {
     other_changes_keep();
     Ok(())
 }
+
+// Room for a session is taken, and another session's place stays as it is; the session is found once it is bound.
+#[test]
+fn room_is_no_session(rt: HostRuntime) -> Result<(), Fail> {
+    let address = NodeAddress::from_bytes(b"127.0.0.1:5555").ok_or("no address")?;
+    let slot = SlotId { node: 1, index: 0 };
+    let caps = Caps::new(rt.alloc());
+    let mut map = LiveMap::new(rt.alloc());
+    let a = SessionId::from_bytes(b"a").ok_or("no session id")?;
+    let b = SessionId::from_bytes(b"b").ok_or("no session id")?;
+    map.ready(1, slot, a, address).map_err(|_| "no memory")?;
+    map.ready(1, slot, b, address).map_err(|_| "no memory")?;
+    assert!(rt; map.find(&a) == Found::NoSession);
+    assert!(rt; map.find(&b) == Found::NoSession);
+    map.bound(1, slot, b, &caps, Moment(10), address)
+        .map_err(|_| "no memory")?;
+    let found = Found::At {
+        slot,
+        address,
+        binding: 1,
+    };
+    assert!(rt; map.find(&b) == found);
+    assert!(rt; map.find(&a) == Found::NoSession);
+    Ok(())
+}

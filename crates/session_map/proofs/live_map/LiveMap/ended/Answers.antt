@@ -26,7 +26,7 @@ returns-in-Some c = λ k. record {
 pub returns-in_default : goal.returns-in_default
 returns-in_default c = λ k. record {
   after = λ g H s l.
-      let new : LiveMap = record { sessions = c.swap_remove.new.self; places = c.args.self.now.places; quiet_since = c.args.self.now.quiet_since } in
+      let new : LiveMap = record { sessions = c.swap_remove.new.self; places = c.args.self.now.places; placeholder = c.args.self.now.placeholder; quiet_since = c.args.self.now.quiet_since } in
       stands-Ended_none g H k c.args.binding c.args._cause c.args._at c.args.self.now new s l (sym c.in_default.ensures.value) c.swap_remove.ensures.updates.0 (λ x. refl)
       (quiet-write c.args.self.now new c.args.binding nothing s.quiet c.swap_remove.ensures.updates.0 (le_refl c.args.self.now.quiet_since.0) (λ b x h. absurd (cc))) c.swap_remove.ensures.unique s.in_order;
 }
