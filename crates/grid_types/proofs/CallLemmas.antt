@@ -1,47 +1,39 @@
 -- What the hub of one thread appends is permitted.
-use Rattle.std.proofs.Common.{◌≡◌, ℕ, ◌-◌, max, Bool, true, false, cond, not, ◌&&◌, List, [], ◌∷◌, ◌++◌, map, length, refl, arith}
-use Rattle.std.specs.Prelude.{Option, None, Some, nat_eq, nat_lt, nat_le, is_some, option_map, find}
-use Rattle.std.specs.List.{list_any, list_all}
+use Rattle.std.proofs.Common.{◌≡◌, ℕ, ◌-◌, max, Bool, true, false, cond, not, ◌&&◌, List, [], ◌∷◌, length, refl, arith}
+use Rattle.std.specs.Prelude.{Option, None, Some, nat_lt, nat_le, is_some, option_map, find}
+use Rattle.std.specs.List.{list_any}
 use Rattle.grid_types.specs.declared.entry.Entry.{Entry}
-use Rattle.grid_types.specs.declared.entry.Change.{Change}
 use Rattle.grid_types.specs.declared.entry.Change.TheVariants as change
 use Rattle.grid_types.specs.declared.entry.FailWhy.{FailWhy}
+use Rattle.grid_types.specs.declared.entry.FailWhy.TheVariants as why
 use Rattle.grid_types.specs.declared.entry.EndCause.{EndCause}
 use Rattle.grid_types.specs.declared.entry.EndCause.TheVariants as cause
 use Rattle.grid_types.specs.declared.entry.Outcome.{Outcome}
-use Rattle.grid_types.specs.declared.view.Standing.{Standing}
-use Rattle.grid_types.specs.declared.view.Standing.TheVariants as standing
 use Rattle.grid_types.specs.declared.names.SlotId.{SlotId}
 use Rattle.grid_types.specs.declared.capabilities.Cap.{Cap}
 use Rattle.grid_types.specs.declared.capabilities.Registration.{Registration}
 use Rattle.grid_types.specs.declared.config.HubConfig.{HubConfig}
 use Rattle.grid_types.specs.Lists.{least}
-use Rattle.grid_types.specs.History.{after, clock, moment_of, nodes, requests}
-use Rattle.grid_types.specs.Nodes.{stands_draining, stands_registered, is_draining, is_registered, beat_of, standing_of}
-use Rattle.grid_types.specs.Slots.{held, holder, has_slot_in_use}
+use Rattle.grid_types.specs.History.{after, clock, nodes}
+use Rattle.grid_types.specs.Nodes.{is_base_up, is_registered, is_spent}
+use Rattle.grid_types.specs.Slots.{held, holder}
 use Rattle.grid_types.specs.Bindings.{Running, bound_of, bindings}
-use Rattle.grid_types.specs.Requests.{Asked, place, place_by, held as held_place, is_waiting, is_unsettled, is_settled, is_taken, is_reserved, outcome_of, asked_of, deadline_of, unsettled, waiting_requests}
-use Rattle.grid_types.specs.Sessions.{IsRunning, is_live, live, active, live_bindings}
+use Rattle.grid_types.specs.Requests.{Asked, place, place_by, held as held_place, is_unsettled, is_settled, is_taken, is_reserved, outcome_of, asked_of, deadline_of}
+use Rattle.grid_types.specs.Sessions.{IsRunning, is_live, is_live_session, live, active, live_bindings}
 use Rattle.grid_types.specs.Choice.{Assignment, chosen}
-use Rattle.grid_types.specs.Permitted.{permitted, is_named, is_name_taken, is_well_sized, is_assignment, is_last, is_caller, is_start_failure, bool_eq}
+use Rattle.grid_types.specs.Permitted.{permitted, is_named, is_name_taken, is_well_sized, is_assignment, is_last, is_caller, is_start_failure, bool_eq, wanted_of}
+use Rattle.grid_types.specs.Matching.{meets}
 use Rattle.grid_types.specs.Legal.{legal}
 use Rattle.grid_types.specs.Tokens.{Closing, is_good_ticket, is_good_reservation, is_good_closing}
 use Rattle.grid_types.specs.Calls.{Call, Reply}
-use Rattle.grid_types.specs.HubAnswers.{Answer, says, makes, moment, register_by, drained, enqueued, polled, polled_open, reserves, dispatched, bound, failed, at_binding, is_binding, closes, expired_by, idle_bindings, cleared, lapses, lapsed_nodes, overdue_requests, time_outs, drained_nodes, removals, swept, hub, answer, after_call}
+use Rattle.grid_types.specs.HubAnswers.{says, makes, moment, register_by, drained, enqueued, polled, polled_open, reserves, dispatched, bind_kept, not_kept, bound, failed, at_binding, is_binding, closes, expired_by, idle_bindings, hub, answer, after_call}
 use Rattle.grid_types.specs.Laws.{is_good_call}
-use Rattle.grid_types.proofs.ListLemmas.{or_left, or_right, least-passes, least-all, all-filter, all-passed, and_left, and_right, is_distinct, distinct-filter}
+use Rattle.grid_types.proofs.ListLemmas.{least-passes, least-all, all-filter, all-passed, and_left, and_right}
 use Rattle.grid_types.proofs.PermittedLemmas.{slot_eq-same, held-is}
 use Rattle.grid_types.proofs.SessionLemmas.{entry}
-use Rattle.grid_types.proofs.HeldLemmas.{place-held, nodes-distinct, requests-distinct}
+use Rattle.grid_types.proofs.SweepLemmas.{both, StaysLegal, still, clear-legal, sweep-legal}
+use Rattle.grid_types.proofs.HeldLemmas.{place-held}
 use Rattle.grid_types.proofs.MapLemmas.{running-live}
-
--- a history stays legal where nothing is added, or one permitted change
-both : (a b : Bool) → a ≡ true → b ≡ true → (a && b) ≡ true
-both a b p q = grind arith
-
--- the answer leaves a legal history
-abbrev StaysLegal : HubConfig → List Entry → ℕ → Answer → Type 0
-StaysLegal c H k a = legal c (after H k a.changes) ≡ true
 
 find-none : {X : Type 0} (p : X → Bool) (xs : List X) → find p xs ≡ None → list_any p xs ≡ false
 find-none p [] h = refl
@@ -95,9 +87,6 @@ freed-legal c H k s r l good = both _ _ l good
 raised : (at clock : ℕ) → nat_le clock (max at clock) ≡ true
 raised at clock = grind arith
 
-still : (m clock : ℕ) → nat_le clock m ≡ true → nat_le (max m clock) m ≡ true
-still m clock h = grind arith
-
 asked_there : (k : ℕ) (o : Option Asked) → is_caller k (option_map (λ a. a.caller) o) ≡ true → is_some o ≡ true
 asked_there k None h = cc
 asked_there k (Some a) h = refl
@@ -124,6 +113,19 @@ poll-legal c H k r m None l t good e =
     by_deadline false early open_yet rest same_clock = rw early rest
 
 -- bind
+drain_bind-legal : (c : HubConfig) (G : List Entry) (k n m : ℕ) (b : Bool) → legal c G ≡ true → nat_le (clock G) m ≡ true → (b ≡ true → is_base_up G n ≡ true) →
+    legal c (after G k (cond b (change.Draining n (moment m) ∷ []) [])) ≡ true
+unfolding permitted
+drain_bind-legal c G k n m true l t up = both _ _ l (both _ _ t (up refl))
+drain_bind-legal c G k n m false l t up = l
+
+kept-legal : (c : HubConfig) (H : List Entry) (k r : ℕ) (s : SlotId) (x : List ℕ) (caps : List Cap) (m : ℕ) → legal c H ≡ true → nat_le (clock H) m ≡ true →
+    permitted c H k (change.Bound r s x caps (moment m)) ≡ true → StaysLegal c H k (bind_kept H k r s x caps m)
+kept-legal c H k r s x caps m l t p = drain_bind-legal c G k s.node m (is_spent G s.node && is_base_up G s.node) (both _ _ l p) (still m (clock H) t) (λ e. and_right _ _ e)
+  where
+    G : List Entry
+    G = entry k (change.Bound r s x caps (moment m)) ∷ H
+
 bind-legal : (c : HubConfig) (H : List Entry) (k r : ℕ) (s : SlotId) (x : List ℕ) (caps : List Cap) (m : ℕ) → legal c H ≡ true → nat_le (clock H) m ≡ true → is_good_reservation H k r s ≡ true → StaysLegal c H k (bound H k r s x caps m)
 unfolding permitted
 bind-legal c H k r s x caps m l t good =
@@ -133,7 +135,22 @@ bind-legal c H k r s x caps m l t good =
   where
     by_settled : (v : Bool) → is_settled H r ≡ v → (is_settled H r ≡ false → place H r ≡ held_place) → bool_eq (is_last H r s) (is_last H r s) ≡ true → StaysLegal c H k (bound H k r s x caps m)
     by_settled true late is_place own = grind arith
-    by_settled false open_yet is_place own = let here : place H r ≡ held_place = is_place open_yet in grind arith
+    by_settled false open_yet is_place own =
+        let here : place H r ≡ held_place = is_place open_yet in
+        let may : is_registered H s.node ≡ true → is_live_session H x ≡ false → meets (wanted_of H r s) caps ≡ true → permitted c H k (change.Bound r s x caps (moment m)) ≡ true =
+        λ a b d. grind arith in
+        rw open_yet (by_node (is_registered H s.node) (is_live_session H x) (meets (wanted_of H r s) caps) refl refl refl own
+        (λ a b d. kept-legal c H k r s x caps m l t (may a b d)))
+      where
+        by_node : (reg lives fit : Bool) → is_registered H s.node ≡ reg → is_live_session H x ≡ lives → meets (wanted_of H r s) caps ≡ fit → bool_eq (is_last H r s) (is_last H r s) ≡ true →
+            (is_registered H s.node ≡ true → is_live_session H x ≡ false → meets (wanted_of H r s) caps ≡ true → StaysLegal c H k (bind_kept H k r s x caps m)) →
+            StaysLegal c H k (cond (not (is_registered H s.node)) (not_kept H k r s x m why.NodeGone Reply.node_gone)
+            (cond (is_live_session H x) (not_kept H k r s x m why.Duplicate Reply.duplicate)
+            (cond (not (meets (wanted_of H r s) caps)) (not_kept H k r s x m why.Mismatch Reply.mismatch) (bind_kept H k r s x caps m))))
+        by_node false lives fit a b d own kept = grind arith
+        by_node true true fit a b d own kept = grind arith
+        by_node true false false a b d own kept = grind arith
+        by_node true false true a b d own kept = rw (a, b, d) (kept a b d)
 
 -- touch and end
 binding-live : (c : HubConfig) (H : List Entry) (s : List ℕ) (b : ℕ) (o : Option Running) → legal c H ≡ true → live H s ≡ o → is_binding b o ≡ true → is_live H b ≡ true
@@ -174,124 +191,6 @@ expire-legal c H k m (Some b) l t e = closes-legal c H k b cause.Idle m (bound_o
 
     lives : is_live H b ≡ true
     lives = least-all nat_lt (is_live H) (idle_bindings c H m) b (all-filter (is_live H) (λ b. nat_le c.idle_ms (m - active H b)) (live_bindings H) (all-passed (is_live H) (bindings H))) e
-
-not_is : (b : Bool) → not b ≡ true → b ≡ false
-not_is b h = grind arith
-
-all-both : {X : Type 0} (p q : X → Bool) (xs : List X) → list_all p xs ≡ true → list_all q xs ≡ true → list_all (λ x. p x && q x) xs ≡ true
-all-both p q [] h g = refl
-all-both p q (x ∷ xs) h g = grind (arith, all-both p q xs)
-
-all-left : {X : Type 0} (p q : X → Bool) (xs : List X) → list_all (λ x. p x && q x) xs ≡ true → list_all p xs ≡ true
-all-left p q [] h = refl
-all-left p q (x ∷ xs) h = grind (arith, all-left p q xs)
-
-draining-registered : (o : Option Standing) → stands_draining o ≡ true → stands_registered o ≡ true
-draining-registered (Some standing.Draining) h = refl
-draining-registered o h = cc
-
--- changes of one kind, one for each number
-module _ (c : HubConfig) (k m : ℕ) (mk : ℕ → Change) (ok : List Entry → ℕ → Bool)
-    (time : (n : ℕ) → moment_of (mk n) ≡ Some m)
-    (allows : (G : List Entry) (n : ℕ) → nat_le (clock G) m ≡ true → ok G n ≡ true → permitted c G k (mk n) ≡ true)
-    (keeps : (G : List Entry) (n o : ℕ) → nat_eq n o ≡ false → ok G o ≡ true → ok (entry k (mk n) ∷ G) o ≡ true) where
-  all_kept : (G : List Entry) (n : ℕ) (ns : List ℕ) → list_any (nat_eq n) ns ≡ false → list_all (ok G) ns ≡ true → list_all (ok (entry k (mk n) ∷ G)) ns ≡ true
-  all_kept G n [] other h = refl
-  all_kept G n (o ∷ ns) other h =
-      both _ _ (keeps G n o (or_left _ _ other) (and_left _ _ h)) (all_kept G n ns (or_right _ _ other) (and_right _ _ h))
-
-  pub each-legal : (ns : List ℕ) (G : List Entry) → legal c G ≡ true → nat_le (clock G) m ≡ true → list_all (ok G) ns ≡ true → is_distinct ns ≡ true →
-      (legal c (after G k (map mk ns)) ≡ true) × (nat_le (clock (after G k (map mk ns))) m ≡ true)
-  each-legal [] G l t h d = (l, t)
-  each-legal (n ∷ ns) G l t h d =
-      let next : legal c (entry k (mk n) ∷ G) ≡ true = both _ _ l (allows G n t (and_left _ _ h)) in
-      let stays : nat_le (clock (entry k (mk n) ∷ G)) m ≡ true = rw (time n) (still m (clock G) t) in
-      let other : list_any (nat_eq n) ns ≡ false = not_is _ (and_left _ _ d) in
-      each-legal ns (entry k (mk n) ∷ G) next stays (all_kept G n ns other (and_right _ _ h)) (and_right _ _ d)
-
--- a test of numbers that these changes leave as it is
-module _ (k : ℕ) (mk : ℕ → Change) (ok : List Entry → ℕ → Bool) (keeps : (G : List Entry) (n o : ℕ) → ok G o ≡ true → ok (entry k (mk n) ∷ G) o ≡ true) where
-  pub kept-after : (ns : List ℕ) (G : List Entry) (o : ℕ) → ok G o ≡ true → ok (after G k (map mk ns)) o ≡ true
-  kept-after [] G o h = h
-  kept-after (n ∷ ns) G o h = kept-after ns (entry k (mk n) ∷ G) o (keeps G n o h)
-
-  pub all-after : (ns os : List ℕ) (G : List Entry) → list_all (ok G) os ≡ true → list_all (ok (after G k (map mk ns))) os ≡ true
-  all-after ns [] G h = refl
-  all-after ns (o ∷ os) G h = both _ _ (kept-after ns G o (and_left _ _ h)) (all-after ns os G (and_right _ _ h))
-
-after-append : (G : List Entry) (k : ℕ) (xs ys : List Change) → after G k (xs ++ ys) ≡ after (after G k xs) k ys
-after-append G k [] ys = refl
-after-append G k (x ∷ xs) ys = after-append (entry k x ∷ G) k xs ys
-
--- clear
-clear-legal : (c : HubConfig) (H : List Entry) (k m : ℕ) → legal c H ≡ true → nat_le (clock H) m ≡ true → StaysLegal c H k (cleared H m)
-unfolding permitted
-clear-legal c H k m l t = (each-legal c k m (λ r. change.Cleared r (moment m)) (λ G r. is_waiting (place G r)) (λ n. refl) (λ G n u h. both _ _ u h) keeps
-    (waiting_requests H) H l t (all-passed (λ r. is_waiting (place H r)) (requests H)) (distinct-filter (λ r. is_waiting (place H r)) (requests H) (requests-distinct c H l).0)).0
-  where
-    keeps : (G : List Entry) (n o : ℕ) → nat_eq n o ≡ false → is_waiting (place G o) ≡ true → is_waiting (place (entry k (change.Cleared n (moment m)) ∷ G) o) ≡ true
-    keeps G n o other h = rw other h
-
--- sweep
-lapses-legal : (c : HubConfig) (H : List Entry) (k m : ℕ) → legal c H ≡ true → nat_le (clock H) m ≡ true → (legal c (after H k (lapses c H m)) ≡ true) × (nat_le (clock (after H k (lapses c H m))) m ≡ true)
-unfolding permitted
-lapses-legal c H k m l t = each-legal c k m (λ n. change.Lapsed n (moment m)) (λ G n. is_registered G n && nat_le c.lapse_ms (m - beat_of G n)) (λ n. refl) allows keeps
-    (lapsed_nodes c H m) H l t (all-passed (λ n. is_registered H n && nat_le c.lapse_ms (m - beat_of H n)) (nodes H)) (distinct-filter (λ n. is_registered H n && nat_le c.lapse_ms (m - beat_of H n)) (nodes H) (nodes-distinct c H l).0)
-  where
-    allows : (G : List Entry) (n : ℕ) → nat_le (clock G) m ≡ true → (is_registered G n && nat_le c.lapse_ms (m - beat_of G n)) ≡ true → permitted c G k (change.Lapsed n (moment m)) ≡ true
-    allows G n u h = grind arith
-
-    keeps : (G : List Entry) (n o : ℕ) → nat_eq n o ≡ false → (is_registered G o && nat_le c.lapse_ms (m - beat_of G o)) ≡ true → (is_registered (entry k (change.Lapsed n (moment m)) ∷ G) o && nat_le c.lapse_ms (m - beat_of (entry k (change.Lapsed n (moment m)) ∷ G) o)) ≡ true
-    keeps G n o other h = rw other h
-
-is_overdue : ℕ → List Entry → ℕ → Bool
-is_overdue m G r = is_unsettled (place G r) && nat_le (deadline_of G r) m
-
-overdue-listed : (H : List Entry) (m : ℕ) → list_all (is_overdue m H) (overdue_requests H m) ≡ true
-unfolding is_overdue
-overdue-listed H m = all-both (λ r. is_unsettled (place H r)) (λ r. nat_le (deadline_of H r) m) (overdue_requests H m)
-    (all-filter (λ r. is_unsettled (place H r)) (λ r. nat_le (deadline_of H r) m) (unsettled H) (all-passed (λ r. is_unsettled (place H r)) (requests H)))
-    (all-passed (λ r. nat_le (deadline_of H r) m) (unsettled H))
-
-time_outs-legal : (c : HubConfig) (G : List Entry) (k m : ℕ) (rs : List ℕ) → legal c G ≡ true → nat_le (clock G) m ≡ true → list_all (is_overdue m G) rs ≡ true → is_distinct rs ≡ true →
-    (legal c (after G k (map (λ r. change.TimedOut r (moment m)) rs)) ≡ true) × (nat_le (clock (after G k (map (λ r. change.TimedOut r (moment m)) rs))) m ≡ true)
-unfolding permitted is_overdue
-time_outs-legal c G k m rs l t h d = each-legal c k m (λ r. change.TimedOut r (moment m)) (is_overdue m) (λ n. refl) (λ F n u g. grind arith) (λ F n o other g. rw other g) rs G l t h d
-
-removals-legal : (c : HubConfig) (G : List Entry) (k m : ℕ) (ns : List ℕ) → legal c G ≡ true → nat_le (clock G) m ≡ true → list_all (is_draining G) ns ≡ true → is_distinct ns ≡ true →
-    (legal c (after G k (map (λ n. change.Removed n (moment m)) ns)) ≡ true) × (nat_le (clock (after G k (map (λ n. change.Removed n (moment m)) ns))) m ≡ true)
-unfolding permitted
-removals-legal c G k m ns l t h d = each-legal c k m (λ n. change.Removed n (moment m)) is_draining (λ n. refl) (λ F n u g. both _ _ u (draining-registered (standing_of F n) g)) (λ F n o other g. rw other g) ns G l t h d
-
-sweep-legal : (c : HubConfig) (H : List Entry) (k m : ℕ) → legal c H ≡ true → nat_le (clock H) m ≡ true → StaysLegal c H k (swept c H k m)
-unfolding is_overdue
-sweep-legal c H k m l t =
-    let lapsed : (legal c lapsed_history ≡ true) × (nat_le (clock lapsed_history) m ≡ true) = lapses-legal c H k m l t in
-    let overdue : list_all (is_overdue m lapsed_history) (overdue_requests H m) ≡ true =
-    all-after k (λ n. change.Lapsed n (moment m)) (is_overdue m) still_overdue (lapsed_nodes c H m) (overdue_requests H m) H (overdue-listed H m) in
-    let once : is_distinct (overdue_requests H m) ≡ true =
-    distinct-filter (λ r. nat_le (deadline_of H r) m) (unsettled H) (distinct-filter (λ r. is_unsettled (place H r)) (requests H) (requests-distinct c H l).0) in
-    let timed_out : (legal c timed_history ≡ true) × (nat_le (clock timed_history) m ≡ true) =
-    time_outs-legal c lapsed_history k m (overdue_requests H m) lapsed.0 lapsed.1 overdue once in
-    let draining : list_all (is_draining lapsed_history) (drained_nodes lapsed_history) ≡ true =
-    all-left (is_draining lapsed_history) (λ n. not (has_slot_in_use lapsed_history n)) (drained_nodes lapsed_history)
-    (all-passed (λ n. is_draining lapsed_history n && not (has_slot_in_use lapsed_history n)) (nodes lapsed_history)) in
-    let still_draining : list_all (is_draining timed_history) (drained_nodes lapsed_history) ≡ true =
-    all-after k (λ r. change.TimedOut r (moment m)) is_draining (λ G n o h. h) (overdue_requests H m) (drained_nodes lapsed_history) lapsed_history draining in
-    let apart : is_distinct (drained_nodes lapsed_history) ≡ true =
-    distinct-filter (λ n. is_draining lapsed_history n && not (has_slot_in_use lapsed_history n)) (nodes lapsed_history) (nodes-distinct c lapsed_history lapsed.0).0 in
-    let removed : (legal c (after timed_history k (removals lapsed_history m)) ≡ true) × (nat_le (clock (after timed_history k (removals lapsed_history m))) m ≡ true) =
-    removals-legal c timed_history k m (drained_nodes lapsed_history) timed_out.0 timed_out.1 still_draining apart in
-    rw (after-append H k (lapses c H m ++ time_outs H m) (removals lapsed_history m), after-append H k (lapses c H m) (time_outs H m)) removed.0
-  where
-    lapsed_history : List Entry
-    lapsed_history = after H k (lapses c H m)
-
-    timed_history : List Entry
-    timed_history = after lapsed_history k (time_outs H m)
-
-    still_overdue : (G : List Entry) (n o : ℕ) → is_overdue m G o ≡ true → is_overdue m (entry k (change.Lapsed n (moment m)) ∷ G) o ≡ true
-    still_overdue G n o h = h
 
 -- each answer leaves a legal history
 answer-legal : (c : HubConfig) (H : List Entry) (k : ℕ) (call : Call) (m : ℕ) → legal c H ≡ true → nat_le (clock H) m ≡ true → is_good_call H k call ≡ true → StaysLegal c H k (answer c H k call m)

@@ -9,7 +9,7 @@ use Rattle.grid_types.specs.declared.entry.Change.{Change}
 use Rattle.grid_types.specs.declared.entry.Change.TheVariants as change
 use Rattle.grid_types.specs.declared.view.Standing.TheVariants as standing
 use Rattle.grid_types.specs.Lists.{numbers_from, when, or_else}
-use Rattle.grid_types.specs.Nodes.{is_up, is_registered, registration_of, stereotypes_of, standing_of, stands_registered}
+use Rattle.grid_types.specs.Nodes.{is_base_up, is_registered, registration_of, stereotypes_of, base_of, stands_registered}
 use Rattle.grid_types.specs.Slots.{free, holder, is_free, slot_at, has_slot_in_use}
 use Rattle.grid_types.specs.Permitted.{permitted}
 use Rattle.grid_types.specs.Legal.{legal}
@@ -18,35 +18,35 @@ use Rattle.grid_types.proofs.ListLemmas.{or_left, or_right}
 use Rattle.grid_types.proofs.LegalLemmas.{legal-before, legal-permitted}
 use Rattle.grid_types.proofs.PermittedLemmas.{free-is}
 use Rattle.grid_types.proofs.NodeLemmas.{used-slot, slot-registered}
-use Rattle.grid_types.proofs.ListedLemmas.{up-registered, permitted-Draining}
+use Rattle.grid_types.proofs.ListedLemmas.{base_up-registered, permitted-Draining}
 
 -- a node that is registered has registered
 pub registered-known : (c : HubConfig) (H : List Entry) (n : ℕ) → legal c H ≡ true → is_registered H n ≡ true → is_some (registration_of H n) ≡ true
 registered-known c [] n l h = absurd (cc)
 registered-known c (e ∷ H) n l h = by_change e.caller e.change (legal-permitted c e H l) h (registered-known c H n (legal-before c e H l))
   where
-    up_before : (m : ℕ) → is_up H m ≡ true → nat_eq m n ≡ true → is_registered H n ≡ true
-    up_before m h e = let same : m ≡ n = grind arith in subst (λ (i : ℕ). is_registered H i ≡ true) same (up-registered H m h)
+    up_before : (m : ℕ) → is_base_up H m ≡ true → nat_eq m n ≡ true → is_registered H n ≡ true
+    up_before m h e = let same : m ≡ n = grind arith in subst (λ (i : ℕ). is_registered H i ≡ true) same (base_up-registered H m h)
 
     by_change : (k : ℕ) (ch : Change) → permitted c H k ch ≡ true → is_registered (entry k ch ∷ H) n ≡ true → (is_registered H n ≡ true → is_some (registration_of H n) ≡ true) → is_some (registration_of (entry k ch ∷ H) n) ≡ true
     by_change k (change.Registered m r at) p h before = by_node (nat_eq m n) h
       where
-        by_node : (b : Bool) → stands_registered (or_else (when b standing.Up) (standing_of H n)) ≡ true → is_some (or_else (when b r) (registration_of H n)) ≡ true
+        by_node : (b : Bool) → stands_registered (or_else (when b standing.Up) (base_of H n)) ≡ true → is_some (or_else (when b r) (registration_of H n)) ≡ true
         by_node true h = refl
         by_node false h = before h
     by_change k (change.Draining m at) p h before = by_node (nat_eq m n) refl h
       where
-        by_node : (b : Bool) → nat_eq m n ≡ b → stands_registered (or_else (when b standing.Draining) (standing_of H n)) ≡ true → is_some (registration_of H n) ≡ true
+        by_node : (b : Bool) → nat_eq m n ≡ b → stands_registered (or_else (when b standing.Draining) (base_of H n)) ≡ true → is_some (registration_of H n) ≡ true
         by_node true e h = before (up_before m (permitted-Draining c H k m at p) e)
         by_node false e h = before h
     by_change k (change.Removed m at) p h before = by_node (nat_eq m n) h
       where
-        by_node : (b : Bool) → stands_registered (or_else (when b standing.Gone) (standing_of H n)) ≡ true → is_some (registration_of H n) ≡ true
+        by_node : (b : Bool) → stands_registered (or_else (when b standing.Gone) (base_of H n)) ≡ true → is_some (registration_of H n) ≡ true
         by_node true h = absurd (cc)
         by_node false h = before h
     by_change k (change.Lapsed m at) p h before = by_node (nat_eq m n) h
       where
-        by_node : (b : Bool) → stands_registered (or_else (when b standing.Down) (standing_of H n)) ≡ true → is_some (registration_of H n) ≡ true
+        by_node : (b : Bool) → stands_registered (or_else (when b standing.Down) (base_of H n)) ≡ true → is_some (registration_of H n) ≡ true
         by_node true h = absurd (cc)
         by_node false h = before h
     by_change k ch p h before = before h

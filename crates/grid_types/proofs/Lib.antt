@@ -25,3 +25,7 @@ pub mod LeastLemmas
 pub mod BindingLemmas
 pub mod AskedLemmas
 pub mod FreeSlotLemmas
+pub mod HeldCountLemmas
+pub mod SweepLemmas
+pub mod DigitLemmas
+pub mod SizeLemmas

@@ -1,5 +1,5 @@
 -- Nodes that are listed: what they were before the last entry, and that they registered.
-use Rattle.std.proofs.Common.{◌≡◌, ℕ, suc, ◌+◌, ◌≤◌, ◌⊎◌, Bool, true, false, not, ◌||◌, List, [], ◌∷◌, map, length, refl, sym, ap, subst, ◌∙◌, inl, inr, arith}
+use Rattle.std.proofs.Common.{◌≡◌, ℕ, suc, ◌+◌, ◌≤◌, ◌⊎◌, Bool, true, false, cond, not, ◌||◌, List, [], ◌∷◌, map, length, refl, sym, ap, subst, ◌∙◌, inl, inr, arith}
 use Rattle.std.specs.Prelude.{Option, None, Some, nat_eq, is_some}
 use Rattle.std.specs.List.{list_any}
 use Rattle.grid_types.specs.declared.entry.Entry.{Entry}
@@ -12,7 +12,7 @@ use Rattle.grid_types.specs.declared.view.Standing.TheVariants as standing
 use Rattle.grid_types.specs.declared.config.HubConfig.{HubConfig}
 use Rattle.grid_types.specs.declared.capabilities.Registration.{Registration}
 use Rattle.grid_types.specs.Lists.{numbers_from}
-use Rattle.grid_types.specs.Nodes.{registration_of, standing_of, stereotypes_of, is_registered, is_up, stands_up, stands_registered, turned}
+use Rattle.grid_types.specs.Nodes.{registration_of, base_of, stereotypes_of, is_registered, is_up, is_base_up, is_suspect, stands_up, stands_registered, turned}
 use Rattle.grid_types.specs.Bindings.{bound_slot}
 use Rattle.grid_types.specs.Slots.{Holder, free, held, busy, closing, holder, is_free, is_busy, slot_eq, slot_at, names_slot, has_slot_in_use, is_listed}
 use Rattle.grid_types.specs.Legal.{legal}
@@ -68,12 +68,24 @@ up_registered (Some standing.Up) h = refl
 up_registered (Some standing.Draining) h = cc
 up_registered (Some standing.Down) h = cc
 up_registered (Some standing.Gone) h = cc
+up_registered (Some standing.Suspect) h = cc
 up_registered None h = cc
 
-pub up-registered : (H : List Entry) (n : ℕ) → is_up H n ≡ true → is_registered H n ≡ true
-up-registered H n h = up_registered (standing_of H n) h
+pub base_up-registered : (H : List Entry) (n : ℕ) → is_base_up H n ≡ true → is_registered H n ≡ true
+base_up-registered H n h = up_registered (base_of H n) h
 
-pub permitted-Draining : (c : HubConfig) (H : List Entry) (k m : ℕ) (at : Moment) → permitted c H k (change.Draining m at) ≡ true → is_up H m ≡ true
+up_base : (suspect : Bool) (o : Option Standing) → stands_up (cond suspect (Some standing.Suspect) o) ≡ true → stands_up o ≡ true
+up_base true o h = cc
+up_base false o h = h
+
+-- a node that takes new sessions has the base Up
+pub up-base_up : (H : List Entry) (n : ℕ) → is_up H n ≡ true → is_base_up H n ≡ true
+up-base_up H n h = up_base (is_suspect H n) (base_of H n) h
+
+pub up-registered : (H : List Entry) (n : ℕ) → is_up H n ≡ true → is_registered H n ≡ true
+up-registered H n h = base_up-registered H n (up-base_up H n h)
+
+pub permitted-Draining : (c : HubConfig) (H : List Entry) (k m : ℕ) (at : Moment) → permitted c H k (change.Draining m at) ≡ true → is_base_up H m ≡ true
 unfolding permitted
 permitted-Draining c H k m at h = grind arith
 
@@ -100,7 +112,7 @@ listed-before c H k n ch l h = by_change ch (legal-permitted c (entry k ch) H l)
       | false ↦ λ e. inr (still H (entry k (change.Registered m r at) ∷ H) n (rw e refl) (λ q. grind arith) (λ i u. u) h)
     ] refl
     by_change (change.Draining m at) p l h = inr (still H (entry k (change.Draining m at) ∷ H) n refl (λ q. elim (nat_eq m n) as (λ v. nat_eq m n ≡ v → is_registered H n ≡ true) [
-      | true ↦ λ e. let same : m ≡ n = grind arith in rw (← same) (up-registered H m (permitted-Draining c H k m at p))
+      | true ↦ λ e. let same : m ≡ n = grind arith in rw (← same) (base_up-registered H m (permitted-Draining c H k m at p))
       | false ↦ λ e. grind arith
     ] refl) (λ i u. u) h)
     by_change (change.Removed m at) p l h = inr (still H (entry k (change.Removed m at) ∷ H) n refl (λ q. grind arith) (λ i u. u) h)
@@ -130,37 +142,37 @@ stands_some : (o : Option Standing) → stands_registered o ≡ true → is_some
 stands_some None h = cc
 stands_some (Some s) h = refl
 
--- a node has a standing exactly where it registered
-pub standing-registration : (c : HubConfig) (H : List Entry) (n : ℕ) → legal c H ≡ true → is_some (standing_of H n) ≡ is_some (registration_of H n)
-standing-registration c [] n l = refl
-standing-registration c (e ∷ H) n l = by_change e.caller e.change (legal-permitted c e H l) (standing-registration c H n (legal-before c e H l))
+-- a node has a base exactly where it registered
+pub base-registration : (c : HubConfig) (H : List Entry) (n : ℕ) → legal c H ≡ true → is_some (base_of H n) ≡ is_some (registration_of H n)
+base-registration c [] n l = refl
+base-registration c (e ∷ H) n l = by_change e.caller e.change (legal-permitted c e H l) (base-registration c H n (legal-before c e H l))
   where
-    own : (m : ℕ) (G : List Entry) → is_some (standing_of H n) ≡ is_some (registration_of H n) → is_registered H m ≡ true → registration_of G n ≡ registration_of H n →
-        (nat_eq m n ≡ true → is_some (standing_of G n) ≡ true) → (nat_eq m n ≡ false → standing_of G n ≡ standing_of H n) → is_some (standing_of G n) ≡ is_some (registration_of G n)
-    own m G before reg same now else_same = elim (nat_eq m n) as (λ v. nat_eq m n ≡ v → is_some (standing_of G n) ≡ is_some (registration_of G n)) [
+    own : (m : ℕ) (G : List Entry) → is_some (base_of H n) ≡ is_some (registration_of H n) → is_registered H m ≡ true → registration_of G n ≡ registration_of H n →
+        (nat_eq m n ≡ true → is_some (base_of G n) ≡ true) → (nat_eq m n ≡ false → base_of G n ≡ base_of H n) → is_some (base_of G n) ≡ is_some (registration_of G n)
+    own m G before reg same now else_same = elim (nat_eq m n) as (λ v. nat_eq m n ≡ v → is_some (base_of G n) ≡ is_some (registration_of G n)) [
       | true ↦ λ d. let one : m ≡ n = grind arith in let At : ℕ → Type 0 = λ z. is_registered H z ≡ true in let here : is_registered H n ≡ true = subst At one reg in
-          now d ∙ sym (stands_some (standing_of H n) here) ∙ before ∙ ap is_some (sym same)
+          now d ∙ sym (stands_some (base_of H n) here) ∙ before ∙ ap is_some (sym same)
       | false ↦ λ d. ap is_some (else_same d) ∙ before ∙ ap is_some (sym same)
     ] refl
 
-    by_change : (k : ℕ) (ch : Change) → permitted c H k ch ≡ true → is_some (standing_of H n) ≡ is_some (registration_of H n) → is_some (standing_of (entry k ch ∷ H) n) ≡ is_some (registration_of (entry k ch ∷ H) n)
-    by_change k (change.Registered m r at) p before = elim (nat_eq m n) as (λ v. nat_eq m n ≡ v → is_some (standing_of (entry k (change.Registered m r at) ∷ H) n) ≡ is_some (registration_of (entry k (change.Registered m r at) ∷ H) n)) [
+    by_change : (k : ℕ) (ch : Change) → permitted c H k ch ≡ true → is_some (base_of H n) ≡ is_some (registration_of H n) → is_some (base_of (entry k ch ∷ H) n) ≡ is_some (registration_of (entry k ch ∷ H) n)
+    by_change k (change.Registered m r at) p before = elim (nat_eq m n) as (λ v. nat_eq m n ≡ v → is_some (base_of (entry k (change.Registered m r at) ∷ H) n) ≡ is_some (registration_of (entry k (change.Registered m r at) ∷ H) n)) [
       | true ↦ λ d. rw d refl
       | false ↦ λ d. rw d before
     ] refl
-    by_change k (change.Draining m at) p before = own m (entry k (change.Draining m at) ∷ H) before (up-registered H m (permitted-Draining c H k m at p)) refl (λ d. rw d refl) (λ d. rw d refl)
+    by_change k (change.Draining m at) p before = own m (entry k (change.Draining m at) ∷ H) before (base_up-registered H m (permitted-Draining c H k m at p)) refl (λ d. rw d refl) (λ d. rw d refl)
     by_change k (change.Removed m at) p before = own m (entry k (change.Removed m at) ∷ H) before (permitted-Removed c H k m at p) refl (λ d. rw d refl) (λ d. rw d refl)
     by_change k (change.Lapsed m at) p before = own m (entry k (change.Lapsed m at) ∷ H) before (permitted-Lapsed c H k m at p) refl (λ d. rw d refl) (λ d. rw d refl)
     by_change k ch p before = before
 
 -- a listed node registered
 pub listed-registered : (c : HubConfig) (H : List Entry) (n : ℕ) → legal c H ≡ true → is_listed H n ≡ true → (r : Registration) × (registration_of H n ≡ Some r)
-listed-registered c H n l h = by_registration (registration_of H n) refl (standing-registration c H n l)
+listed-registered c H n l h = by_registration (registration_of H n) refl (base-registration c H n l)
   where
-    by_registration : (o : Option Registration) → registration_of H n ≡ o → is_some (standing_of H n) ≡ is_some (registration_of H n) → (r : Registration) × (registration_of H n ≡ Some r)
+    by_registration : (o : Option Registration) → registration_of H n ≡ o → is_some (base_of H n) ≡ is_some (registration_of H n) → (r : Registration) × (registration_of H n ≡ Some r)
     by_registration (Some r) e s = (r, e)
     by_registration None e s =
-        let none : standing_of H n ≡ None = none-of (standing_of H n) (s ∙ ap is_some e) in
+        let none : base_of H n ≡ None = none-of (base_of H n) (s ∙ ap is_some e) in
         let off : is_listed H n ≡ false = rw (e, none) refl in
         absurd (grind arith)
 

@@ -11,6 +11,7 @@ use Rattle.grid_types.specs.declared.names.Moment.{Moment}
 use Rattle.grid_types.specs.declared.config.HubConfig.{HubConfig}
 use Rattle.grid_types.specs.Lists.{kept, numbers_from}
 use Rattle.grid_types.specs.History.{nodes, requests}
+use Rattle.grid_types.specs.Nodes.{bound_count, binds_on}
 use Rattle.grid_types.specs.Bindings.{Running}
 use Rattle.grid_types.specs.Slots.{Holder, free, held, busy, closing, holder}
 use Rattle.grid_types.specs.Requests.{place, place_by, is_settled, is_unsettled, is_reserved, is_taken, outcome_of, asked_of, unsettled, waiting, taken as taken_place}
@@ -18,23 +19,45 @@ use Rattle.grid_types.specs.Sessions.{IsRunning, live, live_told, is_live, last_
 use Rattle.grid_types.specs.LookupMap.{session_in}
 use Rattle.grid_types.specs.Permitted.{permitted}
 use Rattle.grid_types.specs.Legal.{legal}
-use Rattle.grid_types.specs.OneMoreEntry.{with_entry, StandingMoves, BeatMoves, TurnMoves, HolderMoves, OwnerMoves, LoadMoves, PlaceMoves, BarMoves, LiveMoves, ActiveMoves, PublishedMoves, QueueMoves, NumberedOneByOne}
+use Rattle.grid_types.specs.OneMoreEntry.{with_entry, BaseMoves, SuspicionMoves, CountMoves, HeldMoves, BeatMoves, TurnMoves, HolderMoves, OwnerMoves, LoadMoves, PlaceMoves, BarMoves, LiveMoves, ActiveMoves, PublishedMoves, QueueMoves, NumberedOneByOne}
 use Rattle.grid_types.proofs.SessionLemmas.{entry}
 use Rattle.grid_types.proofs.PermittedLemmas.{permitted-Registered, permitted-Queued, permitted-Failed, permitted-Taken}
 use Rattle.grid_types.proofs.LegalLemmas.{legal-before, legal-permitted}
 use Rattle.grid_types.proofs.HeldLemmas.{place-held}
 use Rattle.grid_types.proofs.RunningLemmas.{running-busy, busy-running}
-use Rattle.grid_types.proofs.AppendLemmas.{standing-Registered, standing-Draining, standing-Removed, standing-Lapsed, turned-Reserved, holder-Reserved, holder-Bound, holder-Failed, holder-Freed, holder-Ended, holder-Lapsed, place-Queued, place-Reserved, place-Bound, place-Failed, place-TimedOut, place-Cleared, place-Taken, load-Registered, load-Reserved, load-Bound, load-Failed, load-Failed_orphan, load-Ended, load-Freed, load-Lapsed, load-same}
+use Rattle.grid_types.proofs.AppendLemmas.{base-Registered, base-Draining, base-Removed, base-Lapsed, turned-Reserved, holder-Reserved, holder-Bound, holder-Failed, holder-Freed, holder-Ended, holder-Lapsed, place-Queued, place-Reserved, place-Bound, place-Failed, place-TimedOut, place-Cleared, place-Taken, load-Registered, load-Reserved, load-Bound, load-Failed, load-Failed_orphan, load-Ended, load-Freed, load-Lapsed, load-same}
+use Rattle.grid_types.proofs.HeldCountLemmas.{held-Registered, held-Reserved, held-Bound, held-Failed, held-Ended, held-Freed, held-Lapsed, held-same}
 use Rattle.grid_types.proofs.MapLemmas.{live-Bound, live-Ended, live-Lapsed}
 use Rattle.grid_types.proofs.QueueLemmas.{unsettled-Queued, unsettled-Bound, unsettled-TimedOut, unsettled-Cleared, unsettled-Failed_last, unsettled-Reserved, unsettled-same}
 
-pub standing-moves : StandingMoves
-standing-moves = record {
-  registered = standing-Registered;
-  draining = standing-Draining;
-  removed = standing-Removed;
-  lapsed = standing-Lapsed;
+pub base-moves : BaseMoves
+base-moves = record {
+  registered = base-Registered;
+  draining = base-Draining;
+  removed = base-Removed;
+  lapsed = base-Lapsed;
   others = λ H k n c e. rw e refl;
+}
+
+pub suspicion-moves : SuspicionMoves
+suspicion-moves = record {
+  suspected = λ H k m n at. grind arith;
+  beaten = λ H k m n at. grind arith;
+  others = λ H k n c e. rw e refl;
+}
+
+one_counted : (b : Bool) (n : ℕ) → cond b 1 0 + n ≡ cond b (n + 1) n
+one_counted true n = omega arith
+one_counted false n = omega arith
+
+none_counted : (b : Bool) (n : ℕ) → b ≡ false → cond b 1 0 + n ≡ n
+none_counted true n e = cc
+none_counted false n e = omega arith
+
+pub count-moves : CountMoves
+count-moves = record {
+  bound = λ H k r n t x caps at. one_counted (nat_eq t.node n) (bound_count H n);
+  others = λ H k n c e. none_counted (binds_on n c) (bound_count H n) e;
 }
 
 pub beat-moves : BeatMoves
@@ -80,6 +103,18 @@ load-moves c = record {
   freed = load-Freed c;
   lapsed = load-Lapsed;
   others = λ H k n d same off. load-same H (entry k d ∷ H) n (rw same refl) (λ s on. rw (off s on) refl);
+}
+
+pub held-moves : (c : HubConfig) → HeldMoves c
+held-moves c = record {
+  registered = held-Registered c;
+  reserved = held-Reserved c;
+  bound = held-Bound c;
+  failed = held-Failed c;
+  ended = held-Ended c;
+  freed = held-Freed c;
+  lapsed = held-Lapsed;
+  others = λ H k n d same off. held-same H (entry k d ∷ H) n (rw same refl) (λ s on. rw (off s on) refl);
 }
 
 pub place-moves : (c : HubConfig) → PlaceMoves c

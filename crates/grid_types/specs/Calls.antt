@@ -59,7 +59,7 @@ pub data Reply : Type 0 where
   no_session : Reply
   ended : (closing : Closing) → Reply
   is_freed : Reply
-  swept : (lapsed timed_out removed : ℕ) → Reply
+  swept : (lapsed suspected timed_out removed : ℕ) → Reply
   expired : (closing : Closing) → Reply
   cleared : (count : ℕ) → Reply
   viewed : (view : View) → Reply

@@ -44,6 +44,7 @@ moment_of (change.Taken r at) = Some at.0
 moment_of (change.Touched b at) = Some at.0
 moment_of (change.Ended b c at) = Some at.0
 moment_of (change.Freed s) = None
+moment_of (change.Suspected n at) = Some at.0
 
 -- the greatest moment so far, 0 where there is none
 abbrev pub clock : List Entry → ℕ

@@ -17,7 +17,7 @@ use Rattle.grid_types.specs.Lists.{least}
 use Rattle.grid_types.specs.Capabilities.{request_bytes}
 use Rattle.grid_types.specs.Matching.{meets}
 use Rattle.grid_types.specs.History.{after, clock, nodes, next_node, next_request}
-use Rattle.grid_types.specs.Nodes.{is_up, is_draining, is_registered, beat_of}
+use Rattle.grid_types.specs.Nodes.{is_base_up, is_draining, is_registered, is_suspect, is_spent, beat_of}
 use Rattle.grid_types.specs.Slots.{has_slot_in_use, listed}
 use Rattle.grid_types.specs.Requests.{is_settled, outcome_of, deadline_of, unsettled, unsettled_bytes, waiting_requests}
 use Rattle.grid_types.specs.Bindings.{Running, bound_of}
@@ -57,10 +57,10 @@ register_by c H r m None =
 abbrev pub at_registered : List Entry → ℕ → Change → Reply → Answer
 at_registered H n c r = cond (is_registered H n) (makes c r) (says Reply.no_node)
 
--- drain: a Draining node makes no entry
+-- drain: a node that was drained makes no entry
 abbrev pub drained : List Entry → ℕ → ℕ → Answer
 drained H n m =
-    cond (is_up H n) (makes (change.Draining n (moment m)) Reply.draining)
+    cond (is_base_up H n) (makes (change.Draining n (moment m)) Reply.draining)
     (cond (is_draining H n) (says Reply.draining) (says Reply.no_node))
 
 -- enqueue: the numbers, then the support, then the room
@@ -70,8 +70,8 @@ enqueued c H choices m =
     (cond (c.reject_unsupported && not (is_supported H choices)) (says Reply.unsupported)
     (cond (nat_le c.queue_requests (length (unsettled H)) || nat_lt most_bytes (unsettled_bytes H + request_bytes choices))
     (says (Reply.queue_full (length (unsettled H)) (unsettled_bytes H)))
-    (makes (change.Queued (next_request c H) choices (moment (deadline_at c m)) (moment m))
-    (Reply.queued (record { request = next_request c H; deadline = deadline_at c m })))))
+    (makes (change.Queued (next_request c H) choices (moment (deadline_at c choices m)) (moment m))
+    (Reply.queued (record { request = next_request c H; deadline = deadline_at c choices m })))))
 
 -- the reservation of an assignment, and what it tells
 abbrev pub reserves : ℕ → Assignment → Change
@@ -110,6 +110,19 @@ not_kept H caller r s x m w answer =
     makes (change.Failed r s w (Some x) (is_last H r s) (moment m))
     (answer (closing_of (after H caller (change.Failed r s w (Some x) (is_last H r s) (moment m) ∷ [])) s x))
 
+-- the drain of a node of base Up on which as many sessions were bound now as it drains after
+abbrev pub drain_after_bind : List Entry → ℕ → ℕ → List Change
+drain_after_bind H n m = cond (is_spent H n && is_base_up H n) (change.Draining n (moment m) ∷ []) []
+
+-- bind that keeps the session: its Bound, and the drain of the slot's node where it was the last one there
+abbrev pub bind_kept : List Entry → ℕ → ℕ → SlotId → List ℕ → List Cap → ℕ → Answer
+bind_kept H caller r s x caps m = record {
+  changes =
+      change.Bound r s x caps (moment m)
+      ∷ drain_after_bind (after H caller (change.Bound r s x caps (moment m) ∷ [])) s.node m;
+  reply = Reply.bound r;
+}
+
 -- bind: the four causes in order
 abbrev pub bound : List Entry → ℕ → ℕ → SlotId → List ℕ → List Cap → ℕ → Answer
 bound H caller r s x caps m =
@@ -117,7 +130,7 @@ bound H caller r s x caps m =
     (cond (not (is_registered H s.node)) (not_kept H caller r s x m why.NodeGone Reply.node_gone)
     (cond (is_live_session H x) (not_kept H caller r s x m why.Duplicate Reply.duplicate)
     (cond (not (meets (wanted_of H r s) caps)) (not_kept H caller r s x m why.Mismatch Reply.mismatch)
-    (makes (change.Bound r s x caps (moment m)) (Reply.bound r)))))
+    (bind_kept H caller r s x caps m))))
 
 -- fail: the failed start without a session; the reply is by what held before it
 abbrev pub failed : List Entry → ℕ → SlotId → FailWhy → ℕ → Answer
@@ -139,9 +152,14 @@ abbrev pub closes : List Entry → ℕ → Change → Option Running → (Closin
 closes H caller c None answer = says Reply.no_session
 closes H caller c (Some r) answer = makes c (answer (closing_of (after H caller (c ∷ [])) r.slot r.session))
 
--- the nodes that have lapsed, the requests that are overdue, and the draining nodes whose slots are all free
+-- the nodes that were silent for so long that they are down
 abbrev pub lapsed_nodes : HubConfig → List Entry → ℕ → List ℕ
-lapsed_nodes c H m = filter (λ n. is_registered H n && nat_le c.lapse_ms (m - beat_of H n)) (nodes H)
+lapsed_nodes c H m = filter (λ n. is_registered H n && nat_le c.down_ms (m - beat_of H n)) (nodes H)
+
+-- the nodes that are silent and not suspect yet
+abbrev pub silent_nodes : HubConfig → List Entry → ℕ → List ℕ
+silent_nodes c H m =
+    filter (λ n. is_registered H n && not (is_suspect H n) && nat_le c.lapse_ms (m - beat_of H n)) (nodes H)
 
 -- the requests that are not settled and whose deadline is there
 abbrev pub overdue_requests : List Entry → ℕ → List ℕ
@@ -151,9 +169,13 @@ overdue_requests H m = filter (λ r. nat_le (deadline_of H r) m) (unsettled H)
 abbrev pub drained_nodes : List Entry → List ℕ
 drained_nodes H = filter (λ n. is_draining H n && not (has_slot_in_use H n)) (nodes H)
 
--- sweep: each lapsed node, then each overdue request, then each node that is drained after the lapses
+-- the lapses of a sweep
 abbrev pub lapses : HubConfig → List Entry → ℕ → List Change
 lapses c H m = map (λ n. change.Lapsed n (moment m)) (lapsed_nodes c H m)
+
+-- the suspicions of a sweep
+abbrev pub suspicions : HubConfig → List Entry → ℕ → List Change
+suspicions c H m = map (λ n. change.Suspected n (moment m)) (silent_nodes c H m)
 
 -- the time-outs of a sweep
 abbrev pub time_outs : List Entry → ℕ → List Change
@@ -164,15 +186,17 @@ abbrev pub removals : List Entry → ℕ → List Change
 removals H m = map (λ n. change.Removed n (moment m)) (drained_nodes H)
 
 -- the changes in order, and how many of each
-abbrev pub swept_by : List Change → List Change → List Change → Answer
-swept_by lapses overdue removed = record {
-  changes = lapses ++ overdue ++ removed;
-  reply = Reply.swept (length lapses) (length overdue) (length removed);
+abbrev pub swept_by : List Change → List Change → List Change → List Change → Answer
+swept_by lapses suspected overdue removed = record {
+  changes = lapses ++ suspected ++ overdue ++ removed;
+  reply = Reply.swept (length lapses) (length suspected) (length overdue) (length removed);
 }
 
--- the removals are read after the lapses: a draining node that lapses is not removed
+-- sweep: each lapsed node, then each silent one, each overdue request, and each drained node. The silent and the drained
+-- ones are read after the lapses: a node that lapses is not suspected then, and not removed
 abbrev pub swept : HubConfig → List Entry → ℕ → ℕ → Answer
-swept c H caller m = swept_by (lapses c H m) (time_outs H m) (removals (after H caller (lapses c H m)) m)
+swept c H caller m = swept_by (lapses c H m) (suspicions c (after H caller (lapses c H m)) m) (time_outs H m)
+    (removals (after H caller (lapses c H m)) m)
 
 -- expire: the idle session with the least binding
 abbrev pub idle_bindings : HubConfig → List Entry → ℕ → List ℕ

@@ -3,6 +3,7 @@ pub mod Names
 pub mod Config
 pub mod Lists
 pub mod Capabilities
+pub mod QueueTime
 pub mod Matching
 pub mod History
 pub mod Nodes

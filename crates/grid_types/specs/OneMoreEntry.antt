@@ -14,9 +14,9 @@ use Rattle.grid_types.specs.declared.capabilities.Registration.{Registration}
 use Rattle.grid_types.specs.declared.config.HubConfig.{HubConfig}
 use Rattle.grid_types.specs.Lists.{how_many, numbers_from}
 use Rattle.grid_types.specs.History.{nodes, requests}
-use Rattle.grid_types.specs.Nodes.{standing_of, standing_told, beat_of, beat_told, turned, turned_told, address_of, registration_told}
+use Rattle.grid_types.specs.Nodes.{base_of, base_told, is_suspected, suspicion_told, beat_of, beat_told, turned, turned_told, bound_count, binds_on, address_of, registration_told}
 use Rattle.grid_types.specs.Bindings.{Running, bound_slot}
-use Rattle.grid_types.specs.Slots.{free, held, busy, closing, slot_eq, holder, holder_told, owner, is_free, is_busy, names_slot, load, slots_of}
+use Rattle.grid_types.specs.Slots.{free, held, busy, closing, slot_eq, holder, holder_told, owner, is_free, is_busy, names_slot, load, held_count, slots_of}
 use Rattle.grid_types.specs.Requests.{waiting, held as held_place, settled, taken, place, is_settled, is_barred, barred_told, asked_told, outcome_told, held_told, is_taken_by, deadline_of, unsettled}
 use Rattle.grid_types.specs.Sessions.{IsRunning, live, live_told, active, active_told}
 use Rattle.grid_types.specs.LookupMap.{put, removal, changes, published, published_by, session_in, sessions_on}
@@ -28,13 +28,29 @@ use Rattle.grid_types.specs.Legal.{legal}
 abbrev pub with_entry : List Entry → ℕ → Change → List Entry
 with_entry H k c = record { caller = k; change = c } ∷ H
 
--- a node's standing
-pub record StandingMoves : Type 0 where
-  pub registered : (H : List Entry) (k m n : ℕ) (r : Registration) (at : Moment) → standing_of (with_entry H k (change.Registered m r at)) n ≡ cond (nat_eq m n) (Some standing.Up) (standing_of H n)
-  pub draining : (H : List Entry) (k m n : ℕ) (at : Moment) → standing_of (with_entry H k (change.Draining m at)) n ≡ cond (nat_eq m n) (Some standing.Draining) (standing_of H n)
-  pub removed : (H : List Entry) (k m n : ℕ) (at : Moment) → standing_of (with_entry H k (change.Removed m at)) n ≡ cond (nat_eq m n) (Some standing.Gone) (standing_of H n)
-  pub lapsed : (H : List Entry) (k m n : ℕ) (at : Moment) → standing_of (with_entry H k (change.Lapsed m at)) n ≡ cond (nat_eq m n) (Some standing.Down) (standing_of H n)
-  pub others : (H : List Entry) (k n : ℕ) (c : Change) → standing_told n c ≡ None → standing_of (with_entry H k c) n ≡ standing_of H n
+-- a node's base
+pub record BaseMoves : Type 0 where
+  pub registered : (H : List Entry) (k m n : ℕ) (r : Registration) (at : Moment) → base_of (with_entry H k (change.Registered m r at)) n ≡ cond (nat_eq m n) (Some standing.Up) (base_of H n)
+  pub draining : (H : List Entry) (k m n : ℕ) (at : Moment) → base_of (with_entry H k (change.Draining m at)) n ≡ cond (nat_eq m n) (Some standing.Draining) (base_of H n)
+  pub removed : (H : List Entry) (k m n : ℕ) (at : Moment) → base_of (with_entry H k (change.Removed m at)) n ≡ cond (nat_eq m n) (Some standing.Gone) (base_of H n)
+  pub lapsed : (H : List Entry) (k m n : ℕ) (at : Moment) → base_of (with_entry H k (change.Lapsed m at)) n ≡ cond (nat_eq m n) (Some standing.Down) (base_of H n)
+  pub others : (H : List Entry) (k n : ℕ) (c : Change) → base_told n c ≡ None → base_of (with_entry H k c) n ≡ base_of H n
+
+-- whether a node was suspected and has not beaten since
+pub record SuspicionMoves : Type 0 where
+  pub suspected : (H : List Entry) (k m n : ℕ) (at : Moment) →
+      is_suspected (with_entry H k (change.Suspected m at)) n ≡ cond (nat_eq m n) true (is_suspected H n)
+  pub beaten : (H : List Entry) (k m n : ℕ) (at : Moment) →
+      is_suspected (with_entry H k (change.Beaten m at)) n ≡ cond (nat_eq m n) false (is_suspected H n)
+  pub others : (H : List Entry) (k n : ℕ) (c : Change) → suspicion_told n c ≡ None →
+      is_suspected (with_entry H k c) n ≡ is_suspected H n
+
+-- how many sessions were bound on a node
+pub record CountMoves : Type 0 where
+  pub bound : (H : List Entry) (k r n : ℕ) (t : SlotId) (x : List ℕ) (caps : List Cap) (at : Moment) →
+      bound_count (with_entry H k (change.Bound r t x caps at)) n ≡ cond (nat_eq t.node n) (bound_count H n + 1) (bound_count H n)
+  pub others : (H : List Entry) (k n : ℕ) (c : Change) → binds_on n c ≡ false →
+      bound_count (with_entry H k c) n ≡ bound_count H n
 
 -- a node's last beat, and its last turn
 pub record BeatMoves : Type 0 where
@@ -84,6 +100,28 @@ pub record LoadMoves (c : HubConfig) : Type 0 where
   pub lapsed : (H : List Entry) (k n : ℕ) (at : Moment) → load (with_entry H k (change.Lapsed n at)) n ≡ how_many (λ s. not (is_free (holder H s)) && not (is_busy (holder H s))) (slots_of H n)
   -- no slot of the node is concerned, and it is not registered now
   pub others : (H : List Entry) (k n : ℕ) (d : Change) → registration_told n d ≡ None → ((s : SlotId) → s.node ≡ n → holder_told H s (holder H s) d ≡ None) → load (with_entry H k d) n ≡ load H n
+
+-- how many slots of a node are held
+pub record HeldMoves (c : HubConfig) : Type 0 where
+  pub registered : (H : List Entry) (k n : ℕ) (r : Registration) (at : Moment) → legal c H ≡ true →
+      permitted c H k (change.Registered n r at) ≡ true → held_count (with_entry H k (change.Registered n r at)) n ≡ 0
+  pub reserved : (H : List Entry) (k q : ℕ) (t : SlotId) (choice : ℕ) (at : Moment) →
+      legal c (with_entry H k (change.Reserved q t choice at)) ≡ true →
+      held_count (with_entry H k (change.Reserved q t choice at)) t.node ≡ held_count H t.node + 1
+  pub bound : (H : List Entry) (k q : ℕ) (t : SlotId) (x : List ℕ) (caps : List Cap) (at : Moment) → legal c H ≡ true →
+      permitted c H k (change.Bound q t x caps at) ≡ true →
+      held_count H t.node ≡ held_count (with_entry H k (change.Bound q t x caps at)) t.node + 1
+  pub failed : (H : List Entry) (k q : ℕ) (t : SlotId) (w : FailWhy) (o : Option (List ℕ)) (last : Bool) (at : Moment) →
+      legal c H ≡ true → permitted c H k (change.Failed q t w o last at) ≡ true →
+      held_count H t.node ≡ held_count (with_entry H k (change.Failed q t w o last at)) t.node + 1
+  pub ended : (H : List Entry) (k b n : ℕ) (e : EndCause) (at : Moment) → legal c H ≡ true →
+      permitted c H k (change.Ended b e at) ≡ true → held_count (with_entry H k (change.Ended b e at)) n ≡ held_count H n
+  pub freed : (H : List Entry) (k n : ℕ) (t : SlotId) → permitted c H k (change.Freed t) ≡ true →
+      held_count (with_entry H k (change.Freed t)) n ≡ held_count H n
+  pub lapsed : (H : List Entry) (k m n : ℕ) (at : Moment) → held_count (with_entry H k (change.Lapsed m at)) n ≡ held_count H n
+  -- no slot of the node is concerned, and it is not registered now
+  pub others : (H : List Entry) (k n : ℕ) (d : Change) → registration_told n d ≡ None →
+      ((s : SlotId) → s.node ≡ n → holder_told H s (holder H s) d ≡ None) → held_count (with_entry H k d) n ≡ held_count H n
 
 -- where a request stands
 pub record PlaceMoves (c : HubConfig) : Type 0 where

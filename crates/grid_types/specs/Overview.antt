@@ -1,5 +1,5 @@
 -- What the hub shows of itself.
-use Rattle.std.specs.Prelude.{ℕ, Bool, ◌&&◌, nat_lt, List, [], map, length, unwrap_or}
+use Rattle.std.specs.Prelude.{ℕ, Bool, ◌&&◌, nat_lt, List, [], map, length, None, unwrap_or}
 use Rattle.std.specs.List.{list_any}
 use Rattle.grid_types.specs.declared.entry.Entry.{Entry}
 use Rattle.grid_types.specs.declared.capabilities.Registration.{Registration}
@@ -23,7 +23,7 @@ state_of closing = state.Closing
 
 -- shown for a node that never registered, of which no view speaks
 abbrev pub no_registration : Registration
-no_registration = record { name = []; address = []; max_sessions = 0; groups = [] }
+no_registration = record { name = []; address = []; max_sessions = 0; groups = []; drain_after = None }
 
 -- a node with its standing and the state of each slot
 abbrev pub node_view : List Entry → ℕ → NodeView

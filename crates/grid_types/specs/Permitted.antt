@@ -13,10 +13,12 @@ use Rattle.grid_types.specs.declared.capabilities.Cap.{Cap}
 use Rattle.grid_types.specs.declared.capabilities.Registration.{Registration}
 use Rattle.grid_types.specs.declared.config.HubConfig.{HubConfig}
 use Rattle.grid_types.specs.Lists.{when}
+use Rattle.grid_types.specs.declared.limits.TheConstants.{MOST_DRAIN_AFTER}
 use Rattle.grid_types.specs.Capabilities.{request_bytes}
+use Rattle.grid_types.specs.QueueTime.{queue_time}
 use Rattle.grid_types.specs.Matching.{meets}
 use Rattle.grid_types.specs.History.{clock, nodes, next_node, next_request, last_told}
-use Rattle.grid_types.specs.Nodes.{is_up, is_registered, beat_of, registration_of, stereotypes}
+use Rattle.grid_types.specs.Nodes.{is_base_up, is_registered, is_suspect, beat_of, registration_of, stereotypes}
 use Rattle.grid_types.specs.Slots.{slot_eq, holder, is_held_by, is_closing, owner, listed}
 use Rattle.grid_types.specs.Requests.{place, is_waiting, is_held, is_unsettled, is_settled, is_taken, asked_of, deadline_of, choices_of, choice_of, is_barred, unsettled, unsettled_bytes}
 use Rattle.grid_types.specs.Sessions.{is_live, is_live_session, active}
@@ -44,19 +46,24 @@ is_named H name n = is_registered H n && has_name name (registration_of H n)
 abbrev pub is_name_taken : List Entry → List ℕ → Bool
 is_name_taken H name = list_any (is_named H name) (nodes H)
 
--- 1 to 64 slots, and 1 to 64 sessions at most
+-- absent, or from 1 to 1,000,000
+abbrev pub is_drain_count : Option ℕ → Bool
+is_drain_count None = true
+is_drain_count (Some count) = nat_le 1 count && nat_le count MOST_DRAIN_AFTER
+
+-- 1 to 64 slots, 1 to 64 sessions at most, and a count to drain after within its limits
 abbrev pub is_well_sized : Registration → Bool
 is_well_sized r =
     nat_le 1 (length (stereotypes r.groups)) && nat_le (length (stereotypes r.groups)) 64
-    && nat_le 1 r.max_sessions && nat_le r.max_sessions 64
+    && nat_le 1 r.max_sessions && nat_le r.max_sessions 64 && is_drain_count r.drain_after
 
 -- a slot of a registered node matches a choice
 abbrev pub is_supported : List Entry → List (List Cap) → Bool
 is_supported H choices = list_any (λ n. is_registered H n && serves H n choices) (nodes H)
 
--- the deadline of a request that is queued at the moment
-abbrev pub deadline_at : HubConfig → ℕ → ℕ
-deadline_at c moment = min (moment + c.timeout_ms) last_moment
+-- the deadline of a request of these choices that is queued at the moment
+abbrev pub deadline_at : HubConfig → List (List Cap) → ℕ → ℕ
+deadline_at c choices moment = min (moment + queue_time c choices) last_moment
 
 -- the bytes of the queue with this request would be within the limit
 abbrev pub has_room : HubConfig → List Entry → List (List Cap) → Bool
@@ -90,9 +97,10 @@ is_caller k (Some caller) = nat_eq caller k
 abbrev pub has_slot : List Entry → ℕ → ℕ → SlotId → Bool
 has_slot H caller r s = is_held_by r (holder H s) && is_caller caller (owner H s)
 
--- no other Up node that is not barred for the request has a slot that matches a choice of it, and it is not settled
+-- another node that was not drained and is not barred for the request has a slot that matches a choice of it; a suspect
+-- node is one, since it may come back
 abbrev pub is_alternative : List Entry → ℕ → SlotId → ℕ → Bool
-is_alternative H r s n = is_up H n && not (is_barred H r n) && not (nat_eq n s.node) && serves H n (choices_of H r)
+is_alternative H r s n = is_base_up H n && not (is_barred H r n) && not (nat_eq n s.node) && serves H n (choices_of H r)
 
 -- a failure on the slot settles the request: it is not settled yet, and there is no alternative
 unfoldable pub is_last : List Entry → ℕ → SlotId → Bool
@@ -141,11 +149,11 @@ permitted c H k (change.Registered n r at) =
     && nat_lt (length (listed H)) 1_024 && is_well_sized r
 permitted c H k (change.Beaten n at) = nat_le (clock H) at.0 && is_registered H n
 permitted c H k (change.Removed n at) = nat_le (clock H) at.0 && is_registered H n
-permitted c H k (change.Draining n at) = nat_le (clock H) at.0 && is_up H n
-permitted c H k (change.Lapsed n at) = nat_le (clock H) at.0 && is_registered H n && nat_le c.lapse_ms (at.0 - beat_of H n)
+permitted c H k (change.Draining n at) = nat_le (clock H) at.0 && is_base_up H n
+permitted c H k (change.Lapsed n at) = nat_le (clock H) at.0 && is_registered H n && nat_le c.down_ms (at.0 - beat_of H n)
 permitted c H k (change.Queued r choices deadline at) =
     nat_le (clock H) at.0 && nat_eq r (next_request c H) && nat_lt r (2 ^ 64 - 1)
-    && nat_le 1 (length choices) && nat_le (length choices) 64 && nat_eq deadline.0 (deadline_at c at.0)
+    && nat_le 1 (length choices) && nat_le (length choices) 64 && nat_eq deadline.0 (deadline_at c choices at.0)
     && has_room c H choices && (not c.reject_unsupported || is_supported H choices)
 permitted c H k (change.Reserved r s choice at) = nat_le (clock H) at.0 && is_assignment r choice s (chosen H at.0)
 permitted c H k (change.Bound r s x caps at) =
@@ -159,3 +167,5 @@ permitted c H k (change.Taken r at) = nat_le (clock H) at.0 && is_settled H r &&
 permitted c H k (change.Touched b at) = nat_le (clock H) at.0 && is_live H b
 permitted c H k (change.Ended b e at) = nat_le (clock H) at.0 && is_live H b && may_end c H b e at.0
 permitted c H k (change.Freed s) = is_closing (holder H s) && is_caller k (owner H s)
+permitted c H k (change.Suspected n at) =
+    nat_le (clock H) at.0 && is_registered H n && not (is_suspect H n) && nat_le c.lapse_ms (at.0 - beat_of H n)

@@ -36,6 +36,11 @@ abbrev pub is_closing : Holder → Bool
 is_closing closing = true
 is_closing h = false
 
+-- it is held for some request
+abbrev pub is_held_slot : Holder → Bool
+is_held_slot (held r) = true
+is_held_slot h = false
+
 -- it is held for this request
 abbrev pub is_held_by : ℕ → Holder → Bool
 is_held_by r (held q) = nat_eq q r
@@ -80,6 +85,10 @@ slots_of H n = map (slot_at n) (numbers_from 0 (length (stereotypes_of H n)))
 -- how many slots of a node are not free
 abbrev pub load : List Entry → ℕ → ℕ
 load H n = how_many (λ s. not (is_free (holder H s))) (slots_of H n)
+
+-- how many slots of a node are held
+abbrev pub held_count : List Entry → ℕ → ℕ
+held_count H n = how_many (λ s. is_held_slot (holder H s)) (slots_of H n)
 
 -- some slot of the node is not free
 abbrev pub has_slot_in_use : List Entry → ℕ → Bool

@@ -45,6 +45,8 @@ is_node_change (change.Draining n at) = true
 is_node_change (change.Removed n at) = true
 is_node_change (change.Lapsed n at) = true
 is_node_change (change.Reserved r s k at) = true
+is_node_change (change.Bound r s x cs at) = true
+is_node_change (change.Suspected n at) = true
 is_node_change ch = false
 
 abbrev pub is_request_change : Change → Bool

@@ -1,6 +1,6 @@
 -- The definitions at concrete histories: what the hub answers after some calls, and what may not follow. Each expected answer
 -- was worked out by hand from the rules, and each is proved by computing the definitions.
-use Rattle.std.specs.Prelude.{◌≡◌, ℕ, ◌-◌, ◌^◌, Bool, true, false, List, [], ◌∷◌, ◌++◌, map, length, codes, None}
+use Rattle.std.specs.Prelude.{◌≡◌, ℕ, ◌-◌, ◌^◌, Bool, true, false, List, [], ◌∷◌, ◌++◌, map, length, codes, None, Some}
 use Rattle.grid_types.specs.declared.capabilities.Cap.{Cap}
 use Rattle.grid_types.specs.declared.capabilities.CapValue.{CapValue}
 use Rattle.grid_types.specs.declared.capabilities.CapValue.TheVariants as value
@@ -21,6 +21,7 @@ use Rattle.grid_types.specs.declared.view.Standing.TheVariants as standing
 use Rattle.grid_types.specs.declared.view.SlotState.TheVariants as state
 use Rattle.grid_types.specs.Config.{default_config}
 use Rattle.grid_types.specs.Capabilities.{written_caps, request_bytes, json_string}
+use Rattle.grid_types.specs.QueueTime.{queue_time}
 use Rattle.grid_types.specs.Matching.{matches, meets}
 use Rattle.grid_types.specs.Requests.{is_barred, place, waiting}
 use Rattle.grid_types.specs.Permitted.{permitted, deadline_at}
@@ -62,6 +63,7 @@ node name address browser slots = record {
   address = address;
   max_sessions = slots;
   groups = record { stereotype = named browser; count = slots } ∷ [];
+  drain_after = None;
 }
 
 -- a node's first slot, and the tokens that calls take and give
@@ -95,6 +97,10 @@ first_address = codes "x:1"
 -- of the second
 abbrev pub second_address : List ℕ
 second_address = codes "x:2"
+
+-- of a third
+abbrev pub third_address : List ℕ
+third_address = codes "x:3"
 
 -- calls that the histories share
 abbrev pub wants : List ℕ → Call
@@ -247,11 +253,11 @@ unserved_in_time = (wants chrome, 0) ∷ (first_node, 0) ∷ []
 pub record WorkedDeadline : Type 0 where
   pub before_it : reply_after default_config unserved (Call.poll (ticket 1 300_000)) 299_999 ≡ Reply.not_yet (ticket 1 300_000)
   pub at_it : reply_after default_config unserved (Call.poll (ticket 1 300_000)) 300_000 ≡ Reply.settled (outcome.TimedOut (time 300_000))
-  pub swept_before : reply_after default_config unserved Call.sweep 299_999 ≡ Reply.swept 0 0 0
-  pub swept_at_it : reply_after default_config unserved Call.sweep 300_000 ≡ Reply.swept 0 1 0
+  pub swept_before : reply_after default_config unserved Call.sweep 299_999 ≡ Reply.swept 0 0 0 0
+  pub swept_at_it : reply_after default_config unserved Call.sweep 300_000 ≡ Reply.swept 0 0 1 0
   pub swept_outcome : reply_after default_config (unserved ++ (Call.sweep, 300_001) ∷ []) (Call.poll (ticket 1 300_000)) 300_002 ≡ Reply.settled (outcome.TimedOut (time 300_000))
-  pub assigned_before : reply_after (record default_config { lapse_ms = 86_400_000 }) unserved_in_time Call.dispatch 299_999 ≡ Reply.assigned (reservation 1 1 first_address chrome)
-  pub not_assigned_at_it : reply_after (record default_config { lapse_ms = 86_400_000 }) unserved_in_time Call.dispatch 300_000 ≡ Reply.nothing
+  pub assigned_before : reply_after default_config unserved_in_time Call.dispatch 299_999 ≡ Reply.assigned (reservation 1 1 first_address chrome)
+  pub not_assigned_at_it : reply_after default_config unserved_in_time Call.dispatch 300_000 ≡ Reply.nothing
   pub not_permitted_before : and_then default_config unserved 0 (change.TimedOut 1 (time 299_999)) ≡ false
   pub permitted_at_it : and_then default_config unserved 0 (change.TimedOut 1 (time 300_000)) ≡ true
   -- a moment that is earlier than the last one is raised to it
@@ -299,17 +305,19 @@ pub record WorkedFullQueue : Type 0 where
   pub supported : reply_after (record default_config { reject_unsupported = true }) ((first_node, 0) ∷ []) (wants chrome) 0 ≡ Reply.queued (ticket 1 300_000)
   pub not_asked : reply_after default_config ((first_node, 0) ∷ []) (wants firefox) 0 ≡ Reply.queued (ticket 1 300_000)
 
--- a sweep: lapses, then time-outs, then removals, each by ascending number
+-- a sweep: lapses, then suspicions, then time-outs, then removals, each by ascending number
 abbrev pub all_at_once : List (Call × ℕ)
 all_at_once =
     (Call.register (node (codes "a") first_address firefox 1), 0) ∷ (Call.register (node (codes "b") second_address firefox 1), 0)
-    ∷ (wants chrome, 0) ∷ (wants chrome, 0) ∷ (Call.drain 1, 1) ∷ (Call.drain 2, 1) ∷ (Call.beat 1, 290_000) ∷ []
+    ∷ (Call.register (node (codes "c") third_address firefox 1), 0) ∷ (wants chrome, 0) ∷ (wants chrome, 0)
+    ∷ (Call.drain 1, 1) ∷ (Call.drain 2, 1) ∷ (Call.beat 3, 170_000) ∷ (Call.beat 1, 290_000) ∷ []
 
 pub record WorkedSweep : Type 0 where
   pub makes : (hub default_config (run default_config [] all_at_once) 0 Call.sweep 300_000).changes
-      ≡ change.Lapsed 2 (time 300_000) ∷ change.TimedOut 1 (time 300_000) ∷ change.TimedOut 2 (time 300_000) ∷ change.Removed 1 (time 300_000) ∷ []
-  pub counts : reply_after default_config all_at_once Call.sweep 300_000 ≡ Reply.swept 1 2 1
-  pub two_lapses : (hub default_config (run default_config [] ((first_node, 0) ∷ (second_node second_address, 0) ∷ [])) 0 Call.sweep 120_000).changes ≡ change.Lapsed 1 (time 120_000) ∷ change.Lapsed 2 (time 120_000) ∷ []
+      ≡ change.Lapsed 2 (time 300_000) ∷ change.Suspected 3 (time 300_000) ∷ change.TimedOut 1 (time 300_000) ∷ change.TimedOut 2 (time 300_000) ∷ change.Removed 1 (time 300_000) ∷ []
+  pub counts : reply_after default_config all_at_once Call.sweep 300_000 ≡ Reply.swept 1 1 2 1
+  pub two_lapses : (hub default_config (run default_config [] ((first_node, 0) ∷ (second_node second_address, 0) ∷ [])) 0 Call.sweep 240_000).changes ≡ change.Lapsed 1 (time 240_000) ∷ change.Lapsed 2 (time 240_000) ∷ []
+  pub two_suspicions : (hub default_config (run default_config [] ((first_node, 0) ∷ (second_node second_address, 0) ∷ [])) 0 Call.sweep 120_000).changes ≡ change.Suspected 1 (time 120_000) ∷ change.Suspected 2 (time 120_000) ∷ []
 
 -- one session id at two nodes: the second is not kept, and is ended at its node only where that is another address
 abbrev pub two_nodes : List ℕ → List (Call × ℕ)
@@ -361,18 +369,18 @@ abbrev pub second_slot : Reservation
 second_slot = record { request = 2; slot = record { node = 1; index = 1 }; choice = 0; address = first_address; wanted = named chrome }
 
 abbrev pub lapsed : List (Call × ℕ)
-lapsed = two_slots ++ (Call.sweep, 120_000) ∷ []
+lapsed = two_slots ++ (Call.sweep, 240_000) ∷ []
 
 pub record WorkedLapse : Type 0 where
-  pub before_it : reply_after default_config two_slots Call.sweep 119_999 ≡ Reply.swept 0 0 0
-  pub at_it : reply_after default_config two_slots Call.sweep 120_000 ≡ Reply.swept 1 0 0
-  pub after_a_beat : reply_after default_config (two_slots ++ (Call.beat 1, 1) ∷ []) Call.sweep 120_000 ≡ Reply.swept 0 0 0
-  pub not_permitted_before : and_then default_config two_slots 0 (change.Lapsed 1 (time 119_999)) ≡ false
-  pub session_gone : reply_after default_config lapsed (Call.lookup (codes "a")) 120_000 ≡ Reply.found found.NoSession
-  pub node_gone : reply_after default_config lapsed (Call.bind second_slot (codes "b") (named chrome)) 120_001
+  pub before_it : reply_after default_config two_slots Call.sweep 239_999 ≡ Reply.swept 0 1 0 0
+  pub at_it : reply_after default_config two_slots Call.sweep 240_000 ≡ Reply.swept 1 0 0 0
+  pub after_a_beat : reply_after default_config (two_slots ++ (Call.beat 1, 1) ∷ []) Call.sweep 240_000 ≡ Reply.swept 0 1 0 0
+  pub not_permitted_before : and_then default_config two_slots 0 (change.Lapsed 1 (time 239_999)) ≡ false
+  pub session_gone : reply_after default_config lapsed (Call.lookup (codes "a")) 240_000 ≡ Reply.found found.NoSession
+  pub node_gone : reply_after default_config lapsed (Call.bind second_slot (codes "b") (named chrome)) 240_001
       ≡ Reply.node_gone (record { session = codes "b"; slot = record { node = 1; index = 1 }; address = first_address; quit = true })
-  pub name_freed : reply_after default_config lapsed (Call.register (node (codes "a") first_address chrome 2)) 120_001 ≡ Reply.registered 2
-  pub is_legal : legal default_config (run default_config [] (lapsed ++ (Call.bind second_slot (codes "b") (named chrome), 120_001) ∷ [])) ≡ true
+  pub name_freed : reply_after default_config lapsed (Call.register (node (codes "a") first_address chrome 2)) 240_001 ≡ Reply.registered 2
+  pub is_legal : legal default_config (run default_config [] (lapsed ++ (Call.bind second_slot (codes "b") (named chrome), 240_001) ∷ [])) ≡ true
 
 -- the published map's changes, the newest first: a lapse takes the sessions of a node away by the slots' order
 abbrev pub both_busy : List (Call × ℕ)
@@ -387,7 +395,7 @@ put_second = put (record { session = codes "b"; slot = record { node = 1; index 
 pub record WorkedPublishing : Type 0 where
   pub puts : changes (run default_config [] both_busy) ≡ put_second ∷ put_first ∷ []
   pub ended : changes (run default_config [] (both_busy ++ (Call.end (codes "a") 1, 1) ∷ [])) ≡ removal (codes "a") ∷ put_second ∷ put_first ∷ []
-  pub lapsed : changes (run default_config [] (both_busy ++ (Call.sweep, 120_000) ∷ [])) ≡ removal (codes "b") ∷ removal (codes "a") ∷ put_second ∷ put_first ∷ []
+  pub lapsed : changes (run default_config [] (both_busy ++ (Call.sweep, 240_000) ∷ [])) ≡ removal (codes "b") ∷ removal (codes "a") ∷ put_second ∷ put_first ∷ []
 
 -- a session that is idle since its last touch: at the moment, and not a millisecond before
 abbrev pub touched : List (Call × ℕ)
@@ -423,8 +431,8 @@ pub record WorkedDrain : Type 0 where
   pub session_goes_on : reply_after default_config draining (Call.touch (codes "a") 1) 2 ≡ Reply.touched
   pub drain_again : reply_after default_config draining (Call.drain 1) 2 ≡ Reply.draining
   pub no_second_entry : length (run default_config [] (draining ++ (Call.drain 1, 2) ∷ [])) ≡ length (run default_config [] draining)
-  pub not_removed_yet : reply_after default_config draining Call.sweep 2 ≡ Reply.swept 0 0 0
-  pub removed : reply_after default_config drained Call.sweep 3 ≡ Reply.swept 0 0 1
+  pub not_removed_yet : reply_after default_config draining Call.sweep 2 ≡ Reply.swept 0 0 0 0
+  pub removed : reply_after default_config drained Call.sweep 3 ≡ Reply.swept 0 0 0 1
   pub not_listed : reply_after default_config (drained ++ (Call.sweep, 3) ∷ []) Call.view 3
       ≡ Reply.viewed (record { ready = false; nodes = []; waiting = record { request = 2; deadline = time 300_001; choices = 1; bytes = 24 } ∷ [] })
   pub listed_while_busy : reply_after default_config draining Call.view 2 ≡ Reply.viewed (viewed_with standing.Draining)
@@ -469,8 +477,8 @@ pub record WorkedNumbers : Type 0 where
   pub last_node : reply_after (record default_config { first_node = 2 ^ 32 - 2 }) [] first_node 0 ≡ Reply.registered (2 ^ 32 - 2)
   -- a deadline stays within the greatest moment
   pub last_moment : reply_after default_config [] (Call.enqueue ([] ∷ [])) (2 ^ 62 - 2) ≡ Reply.queued (ticket 1 (2 ^ 62 - 1))
-  pub deadline_reaches_it : deadline_at default_config (2 ^ 62 - 300_001) ≡ 2 ^ 62 - 1
-  pub deadline_below_it : deadline_at default_config (2 ^ 62 - 300_002) ≡ 2 ^ 62 - 2
+  pub deadline_reaches_it : deadline_at default_config ([] ∷ []) (2 ^ 62 - 300_001) ≡ 2 ^ 62 - 1
+  pub deadline_below_it : deadline_at default_config ([] ∷ []) (2 ^ 62 - 300_002) ≡ 2 ^ 62 - 2
   -- a taken name is told before that numbers are spent, and spent numbers before that nothing matches
   pub name_before_numbers : reply_after (record default_config { first_node = 2 ^ 32 - 2 }) ((first_node, 0) ∷ []) first_node 0 ≡ Reply.name_taken (2 ^ 32 - 2)
   pub numbers_before_support : reply_after (record default_config { first_request = 2 ^ 64 - 1; reject_unsupported = true }) [] (wants chrome) 0 ≡ Reply.numbers_spent
@@ -485,3 +493,107 @@ pub record WorkedRefusals : Type 0 where
   pub not_another_callers : and_then default_config (two_nodes second_address) 1 (change.Failed 2 (slot 2) why.BadReply None false (time 2)) ≡ false
   pub its_callers : and_then default_config (two_nodes second_address) 0 (change.Failed 2 (slot 2) why.BadReply None false (time 2)) ≡ true
   pub not_before_the_clock : and_then default_config (two_nodes second_address) 0 (change.Beaten 1 (time 0)) ≡ false
+
+-- a node of two slots with a session that is silent: it is suspect, takes no new session and keeps its own; a beat brings
+-- it back, and after a longer silence it is down
+abbrev pub silent : List (Call × ℕ)
+silent =
+    (Call.register (node (codes "a") first_address chrome 2), 0) ∷ (wants chrome, 0) ∷ (Call.dispatch, 0)
+    ∷ (binds 1 1 first_address (codes "a"), 0) ∷ []
+
+abbrev pub suspected : List (Call × ℕ)
+suspected = silent ++ (Call.sweep, 120_000) ∷ (wants chrome, 120_000) ∷ []
+
+abbrev pub back : List (Call × ℕ)
+back = suspected ++ (Call.beat 1, 130_000) ∷ []
+
+abbrev pub suspected_again : List (Call × ℕ)
+suspected_again = back ++ (Call.dispatch, 130_000) ∷ (Call.sweep, 250_000) ∷ []
+
+abbrev pub down : List (Call × ℕ)
+down = suspected_again ++ (Call.sweep, 370_000) ∷ []
+
+-- it is drained while it is suspect
+abbrev pub drained_suspect : List (Call × ℕ)
+drained_suspect = silent ++ (Call.sweep, 120_000) ∷ (Call.drain 1, 120_000) ∷ []
+
+abbrev pub shown_as : Standing → View
+shown_as standing = record (viewed_with standing) { waiting = [] }
+
+pub record WorkedSuspect : Type 0 where
+  pub before_it : reply_after default_config silent Call.sweep 119_999 ≡ Reply.swept 0 0 0 0
+  pub at_it : reply_after default_config silent Call.sweep 120_000 ≡ Reply.swept 0 1 0 0
+  pub once : reply_after default_config suspected Call.sweep 239_999 ≡ Reply.swept 0 0 0 0
+  pub not_permitted_before : and_then default_config silent 0 (change.Suspected 1 (time 119_999)) ≡ false
+  pub not_permitted_twice : and_then default_config suspected 0 (change.Suspected 1 (time 130_000)) ≡ false
+  pub session_stays : reply_after default_config suspected (Call.lookup (codes "a")) 120_000 ≡ Reply.found (found.At (slot 1) first_address 1)
+  pub deadline : reply_after default_config (silent ++ (Call.sweep, 120_000) ∷ []) (wants chrome) 120_000 ≡ Reply.queued (ticket 2 420_000)
+  pub takes_none : reply_after default_config suspected Call.dispatch 120_000 ≡ Reply.nothing
+  pub not_ready : reply_after default_config suspected (Call.poll (ticket 2 420_000)) 120_000 ≡ Reply.not_yet (ticket 2 420_000)
+  pub comes_back : reply_after default_config back Call.dispatch 130_000 ≡ Reply.assigned second_slot
+  pub silent_again : reply_after default_config (back ++ (Call.dispatch, 130_000) ∷ []) Call.sweep 250_000 ≡ Reply.swept 0 1 0 0
+  pub lapses : reply_after default_config suspected_again Call.sweep 370_000 ≡ Reply.swept 1 0 0 0
+  pub session_gone : reply_after default_config down (Call.lookup (codes "a")) 370_000 ≡ Reply.found found.NoSession
+  pub node_gone : reply_after default_config down (Call.bind second_slot (codes "b") (named chrome)) 370_000
+      ≡ Reply.node_gone (record { session = codes "b"; slot = record { node = 1; index = 1 }; address = first_address; quit = true })
+  pub name_freed : reply_after default_config down (Call.register (node (codes "a") first_address chrome 2)) 370_000 ≡ Reply.registered 2
+  -- a start that failed is tried again, as long as a suspect node may come back
+  pub may_come_back : reply_after default_config (first_start ++ (Call.sweep, 120_000) ∷ []) (fails 1 first_address) 120_000 ≡ Reply.failed_again
+  pub drains : reply_after default_config (silent ++ (Call.sweep, 120_000) ∷ []) (Call.drain 1) 120_000 ≡ Reply.draining
+  pub shown_suspect : reply_after default_config drained_suspect Call.view 120_000 ≡ Reply.viewed (shown_as standing.Suspect)
+  pub shown_draining : reply_after default_config (drained_suspect ++ (Call.beat 1, 120_001) ∷ []) Call.view 120_001 ≡ Reply.viewed (shown_as standing.Draining)
+  pub is_legal : legal default_config (run default_config [] (down ++ (Call.bind second_slot (codes "b") (named chrome), 370_000) ∷ [])) ≡ true
+  pub drain_is_legal : legal default_config (run default_config [] (drained_suspect ++ (Call.beat 1, 120_001) ∷ [])) ≡ true
+
+-- a node that drains after one session
+abbrev pub for_one : List (Call × ℕ)
+for_one =
+    (Call.register (record (node (codes "a") first_address chrome 2) { drain_after = Some 1 }), 0)
+    ∷ (wants chrome, 0) ∷ (wants chrome, 0) ∷ []
+
+abbrev pub one_held : List (Call × ℕ)
+one_held = for_one ++ (Call.dispatch, 0) ∷ []
+
+abbrev pub one_bound : List (Call × ℕ)
+one_bound = one_held ++ (binds 1 1 first_address (codes "a"), 1) ∷ []
+
+abbrev pub one_ended : List (Call × ℕ)
+one_ended = one_bound ++ (Call.end (codes "a") 1, 2) ∷ (Call.freed (closing (codes "a") 1 first_address true), 2) ∷ []
+
+pub record WorkedCount : Type 0 where
+  pub first_gets_it : reply_after default_config for_one Call.dispatch 0 ≡ Reply.assigned (reservation 1 1 first_address chrome)
+  pub held_one_counts : reply_after default_config one_held Call.dispatch 0 ≡ Reply.nothing
+  pub is_bound : reply_after default_config one_held (binds 1 1 first_address (codes "a")) 1 ≡ Reply.bound 1
+  pub drains : (hub default_config (run default_config [] one_held) 0 (binds 1 1 first_address (codes "a")) 1).changes
+      ≡ change.Bound 1 (slot 1) (codes "a") (named chrome) (time 1) ∷ change.Draining 1 (time 1) ∷ []
+  pub bound_one_counts : reply_after default_config one_ended Call.dispatch 2 ≡ Reply.nothing
+  pub removed : reply_after default_config one_ended Call.sweep 2 ≡ Reply.swept 0 0 0 1
+  -- a start that fails, with a session of the node or without one, leaves the count to the next request
+  pub next_after_failure : reply_after default_config (one_held ++ (fails 1 first_address, 1) ∷ []) Call.dispatch 1
+      ≡ Reply.assigned (reservation 2 1 first_address chrome)
+  pub next_after_orphan : reply_after default_config (one_held ++ (Call.bind (reservation 1 1 first_address chrome) (codes "a") (named firefox), 1) ∷ []) Call.dispatch 1
+      ≡ Reply.assigned second_slot
+  -- a node that was drained by hand is not drained again
+  pub drained_before : (hub default_config (run default_config [] (one_held ++ (Call.drain 1, 0) ∷ [])) 0 (binds 1 1 first_address (codes "a")) 1).changes
+      ≡ change.Bound 1 (slot 1) (codes "a") (named chrome) (time 1) ∷ []
+  pub is_legal : legal default_config (run default_config [] (one_ended ++ (Call.sweep, 2) ∷ [])) ≡ true
+
+-- the time that a request asks to wait
+abbrev pub asking : CapValue → List Cap
+asking value = record { name = codes "grid:queueTimeout"; value = value } ∷ []
+
+abbrev pub waits : List (List Cap) → ℕ
+waits = queue_time default_config
+
+pub record WorkedQueueTime : Type 0 where
+  pub asked : waits (asking (value.Raw (codes "2000")) ∷ []) ≡ 2_000
+  pub least : waits (asking (value.Raw (codes "1000")) ∷ []) ≡ 1_000
+  pub below_least : waits (asking (value.Raw (codes "999")) ∷ []) ≡ 300_000
+  pub most : waits (asking (value.Raw (codes "86400000")) ∷ []) ≡ 86_400_000
+  pub above_most : waits (asking (value.Raw (codes "86400001")) ∷ []) ≡ 300_000
+  pub no_text : waits (asking (value.Text (codes "2000")) ∷ []) ≡ 300_000
+  pub no_fraction : waits (asking (value.Raw (codes "2000.0")) ∷ []) ≡ 300_000
+  pub behind_others : waits ((named chrome ++ asking (value.Raw (codes "2000"))) ∷ []) ≡ 2_000
+  pub first_list : waits (asking (value.Raw (codes "2000")) ∷ asking (value.Raw (codes "3000")) ∷ []) ≡ 2_000
+  pub first_that_asks : waits (named chrome ∷ asking (value.Raw (codes "999")) ∷ asking (value.Raw (codes "3000")) ∷ []) ≡ 3_000
+  pub deadline : reply_after default_config [] (Call.enqueue (asking (value.Raw (codes "2000")) ∷ [])) 10 ≡ Reply.queued (ticket 1 2_010)

@@ -256,7 +256,8 @@ impl Clone for Groups {
 
 /// What a node says of itself when it registers.
 ///
-/// That `max_sessions` and the number of slots are from 1 to 64 is checked by whoever reads a registration; the hub's call asks for it.
+/// That `max_sessions` and the number of slots are from 1 to 64, and `drain_after` from 1 to 1,000,000, is checked by whoever
+/// reads a registration; the hub's call asks for it.
 #[derive(Debug, Drop)]
 pub struct Registration {
     /// The node's name, which no other registered node has.
@@ -267,6 +268,8 @@ pub struct Registration {
     pub max_sessions: u16,
     /// The node's slots.
     pub groups: Groups,
+    /// The count of sessions that it runs in its life: once as many were bound there it drains. None is no such count.
+    pub drain_after: Option<u32>,
 }
 
 impl Clone for Registration {
@@ -280,6 +283,7 @@ impl Clone for Registration {
             address: self.address,
             max_sessions: self.max_sessions,
             groups: self.groups.clone()?,
+            drain_after: self.drain_after,
         })
     }
 }

@@ -1,6 +1,7 @@
 ghost use Rattle.std.specs.Prelude.{◌↔◌, IsTrue};
 ghost use Rattle.grid_types.specs.Config.{IsValid};
 
+use crate::limits::MOST_DOWN_MS;
 use crate::names::{NodeNo, ReqNo};
 
 /// What a hub is set up with. It is fixed for the hub's life, and [`HubConfig::is_valid`] says which values a hub takes.
@@ -10,7 +11,7 @@ pub struct HubConfig {
     pub timeout_ms: u64,
     /// Milliseconds without a touch after which a session is idle: 10,000 to 86,400,000.
     pub idle_ms: u64,
-    /// Milliseconds without a beat after which a node has lapsed: 1,000 to 86,400,000.
+    /// Milliseconds without a beat after which a node is suspect: 1,000 to 86,400,000.
     pub lapse_ms: u64,
     /// How many requests may wait or be held at once: 1 to 10,000.
     pub queue_requests: u32,
@@ -20,6 +21,8 @@ pub struct HubConfig {
     pub first_node: NodeNo,
     /// The number of the first request, at least 1.
     pub first_request: ReqNo,
+    /// Milliseconds without a beat after which a node is down: from `lapse_ms` to 172,800,000.
+    pub down_ms: u64,
 }
 
 impl HubConfig {
@@ -37,6 +40,8 @@ impl HubConfig {
             && self.queue_requests <= 10_000
             && self.first_node >= 1
             && self.first_request >= 1
+            && self.down_ms >= self.lapse_ms
+            && self.down_ms <= MOST_DOWN_MS
     }
 }
 
@@ -46,7 +51,8 @@ impl Default for HubConfig {
 
     ghost is_default = { λ c. c ≡ default_config };
 
-    /// 300 s to a deadline and to idleness, 120 s to a lapse, 10,000 requests, no refusal of the unsupported, numbers from 1.
+    /// 300 s to a deadline and to idleness, 120 s until a node is suspect and 240 s until it is down, 10,000 requests,
+    /// no refusal of the unsupported, numbers from 1.
     fn default() -> Self {
         HubConfig {
             timeout_ms: 300_000,
@@ -56,6 +62,7 @@ impl Default for HubConfig {
             reject_unsupported: false,
             first_node: 1,
             first_request: 1,
+            down_ms: 240_000,
         }
     }
 }

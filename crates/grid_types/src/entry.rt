@@ -149,6 +149,11 @@ pub enum Change {
     Freed {
         slot: SlotId,
     },
+    /// A node was silent for so long that it takes no new session until its next sign of life.
+    Suspected {
+        node: NodeNo,
+        at: Moment,
+    },
 }
 
 /// One entry of a history: a change, and the number of the caller that made it.

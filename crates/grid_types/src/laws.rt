@@ -1,6 +1,6 @@
 //! The laws of the definitions, each as the contract of a function that does nothing.
 ghost use Rattle.grid_types.specs.declared.config.HubConfig.{HubConfig};
-ghost use Rattle.grid_types.specs.OneMoreEntry.{ActiveMoves, BarMoves, BeatMoves, HolderMoves, LiveMoves, LoadMoves, NumberedOneByOne, OwnerMoves, PlaceMoves, PublishedMoves, QueueMoves, StandingMoves, TurnMoves};
+ghost use Rattle.grid_types.specs.OneMoreEntry.{ActiveMoves, BarMoves, BaseMoves, BeatMoves, CountMoves, HeldMoves, HolderMoves, LiveMoves, LoadMoves, NumberedOneByOne, OwnerMoves, PlaceMoves, PublishedMoves, QueueMoves, SuspicionMoves, TurnMoves};
 ghost use Rattle.grid_types.specs.Laws.{CallsGiveGoodTokens, CallsStayLegal, ChosenFits, ChosenIsFirst, ClosingsStayGood, FirstIsChosen, LegalHistoriesAreSafe, LiveIsRunning, MapFindsLive, NoneFits, ReservationsStayGood, ReservationsTellTheSame, TicketsStayGood, TicketsTellTheSame};
 
 /// After each call of the hub of one thread its history is legal again.
@@ -51,12 +51,15 @@ pub fn tokens_tell_the_same()
 
 /// What one more entry does to each fact of a node, a slot, a request and a session, and to the published map.
 pub fn one_more_entry()
-    ensures standing { StandingMoves }
+    ensures base { BaseMoves }
+    ensures suspicion { SuspicionMoves }
+    ensures count { CountMoves }
     ensures beat { BeatMoves }
     ensures turned { TurnMoves }
     ensures holder { HolderMoves }
     ensures owner { OwnerMoves }
     ensures load { (c : HubConfig) → LoadMoves c }
+    ensures held { (c : HubConfig) → HeldMoves c }
     ensures place { (c : HubConfig) → PlaceMoves c }
     ensures barred { BarMoves }
     ensures live { (c : HubConfig) → LiveMoves c }

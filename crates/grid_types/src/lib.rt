@@ -6,7 +6,11 @@ mod capabilities;
 mod config;
 mod entry;
 mod laws;
+mod limits;
 mod names;
+mod queue_time;
+mod request_size;
+mod spent;
 mod text;
 mod view;
 mod worked;
@@ -18,7 +22,11 @@ pub use laws::{
     calls_give_good_tokens, calls_stay_legal, chosen_is_first, legal_is_safe, live_is_running,
     map_finds_live, numbered_one_by_one, one_more_entry, tokens_stay_good, tokens_tell_the_same,
 };
+pub use limits::{LEAST_QUEUE_TIME_MS, MOST_DOWN_MS, MOST_DRAIN_AFTER, MOST_QUEUE_TIME_MS};
 pub use names::{Moment, NodeAddress, NodeNo, ReqNo, SessionId, SlotId, Words};
+pub use queue_time::{QUEUE_TIME_NAME, time_of_value, time_to_wait};
+pub use request_size::request_bytes;
+pub use spent::Spent;
 pub use text::{Bytes, NoMemory, Text};
 pub use view::{NodeView, NodeViews, SlotState, SlotViews, Standing, View, WaitView, WaitViews};
 pub use worked::{full_grid, worked_histories};

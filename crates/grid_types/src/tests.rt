@@ -101,11 +101,13 @@ fn a_registrations_copy_is_equal(rt: HostRuntime) -> Result<(), Fail> {
         address: NodeAddress::from_bytes(b"127.0.0.1:5555").ok_or("no address")?,
         max_sessions: 2,
         groups,
+        drain_after: Some(7),
     };
     let copy = registration.clone()?;
     assert_eq!(rt; copy.name.as_str(), "n1");
     assert_eq!(rt; copy.address.as_bytes(), b"127.0.0.1:5555".as_slice());
     assert_eq!(rt; copy.max_sessions, 2);
+    assert!(rt; copy.drain_after == Some(7));
     match copy.groups.items() {
         [group] => {
             assert_eq!(rt; group.count, 3);
@@ -128,6 +130,7 @@ fn views_keep_what_was_put_in(rt: HostRuntime) -> Result<(), Fail> {
         address: NodeAddress::from_bytes(b"loop:1").ok_or("no address")?,
         max_sessions: 1,
         groups: Groups::new(rt.alloc()),
+        drain_after: None,
     };
     let mut nodes = NodeViews::new(rt.alloc());
     nodes

@@ -16,6 +16,8 @@ pub enum Standing {
     Down,
     /// Was removed.
     Gone,
+    /// Registered, and takes no new sessions before its next beat, since it was silent.
+    Suspect,
 }
 
 /// What a slot is in use for, as a view shows it.

@@ -1,5 +1,5 @@
 //! Concrete histories with their expected answers, each as a clause that is proved by computing the definitions.
-ghost use Rattle.grid_types.specs.WorkedHistories.{WorkedMatching, WorkedWriting, WorkedBusySlot, WorkedChoice, WorkedRetry, WorkedLateBind, WorkedDeadline, WorkedPoll, WorkedFullQueue, WorkedSweep, WorkedEqualIds, WorkedMismatch, WorkedNodes, WorkedLapse, WorkedPublishing, WorkedIdle, WorkedDrain, WorkedRound, WorkedNumbers, WorkedRefusals};
+ghost use Rattle.grid_types.specs.WorkedHistories.{WorkedMatching, WorkedWriting, WorkedBusySlot, WorkedChoice, WorkedRetry, WorkedLateBind, WorkedDeadline, WorkedPoll, WorkedFullQueue, WorkedSweep, WorkedEqualIds, WorkedMismatch, WorkedNodes, WorkedLapse, WorkedPublishing, WorkedIdle, WorkedDrain, WorkedRound, WorkedNumbers, WorkedRefusals, WorkedSuspect, WorkedCount, WorkedQueueTime};
 ghost use Rattle.grid_types.specs.FullGrid.{WorkedFullGrid};
 
 /// What the hub answers after some calls, and which entries may not follow, at histories that were worked out by hand.
@@ -26,6 +26,9 @@ pub fn worked_histories()
     ensures round { WorkedRound }
     ensures numbers { WorkedNumbers }
     ensures refusals { WorkedRefusals }
+    ensures suspect { WorkedSuspect }
+    ensures count { WorkedCount }
+    ensures queue_time { WorkedQueueTime }
 {}
 
 /// A grid that lists 1,024 nodes takes no more. It does nothing.

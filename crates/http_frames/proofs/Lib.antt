@@ -20,3 +20,8 @@ pub mod LineLemmas
 pub mod WrittenLemmas
 pub mod WrittenRequestLemmas
 pub mod ValueLemmas
+mod FeedLemmas
+mod EndLemmas
+mod ChunkFeedLemmas
+mod AlikeLemmas
+mod WaitLemmas

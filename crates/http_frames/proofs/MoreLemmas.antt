@@ -21,7 +21,7 @@ use Rattle.http_frames.specs.Fields.{headers_of, call_of}
 use Rattle.http_frames.proofs.UniqueLemmas.{take_over, ends, body_unique}
 
 -- the first k bytes stay, or grow
-take_grows : (P : List ℕ → Type 0) (k : ℕ) (t more : List ℕ) → ((m : List ℕ) → P t → P (t ++ m)) → P (take k t) → P (take k (t ++ more))
+pub take_grows : (P : List ℕ → Type 0) (k : ℕ) (t more : List ℕ) → ((m : List ℕ) → P t → P (t ++ m)) → P (take k t) → P (take k (t ++ more))
 take_grows P k t more grow x =
     elim (cases_lt k (length t)) [
       | inl h ↦ subst P (sym (take-append-le k t more (omega arith))) x
@@ -41,7 +41,7 @@ never_head_more t m never more h rest x =
     never (m ++ more) h rest ((x.0.0, sym (append_assoc t m more) ∙ x.0.1), x.1)
 
 -- the shortest head behind a method
-abbrev shortest : List LineEnd → List ℕ → RequestHead
+abbrev pub shortest : List LineEnd → List ℕ → RequestHead
 shortest blank method = record { blank = blank; method = method; target = 47 ∷ []; minor = 0; line_end = lf; fields = []; last = lf }
 
 pub bad_head_more : (t m : List ℕ) → IsBadHead t → IsBadHead (t ++ m)
@@ -83,19 +83,19 @@ bad_head_more t m b = (outside, never_head_more t m b.1)
               ((ok, sym (append_assoc t (k.0 ∷ k.1) tail) ∙ ap (λ (u : List ℕ). u ++ tail) (sym k.2) ∙ sym print), omega arith)
         ]
 
-has_head_more : (limits : FrameLimits) (buf more : List ℕ) (h : RequestHead) (rest : List ℕ)
+pub has_head_more : (limits : FrameLimits) (buf more : List ℕ) (h : RequestHead) (rest : List ℕ)
     → HasHead limits buf h rest → HasHead limits (buf ++ more) h (rest ++ more)
 has_head_more limits buf more h rest x = ((ReadsRequest-append buf h rest more x.0.0, x.0.1), x.1)
 
 -- ---- chunks
 
-line_more : (t more : List ℕ) (l : ChunkLine) (rest : List ℕ) → ReadsLine t l rest → ReadsLine (t ++ more) l (rest ++ more)
+pub line_more : (t more : List ℕ) (l : ChunkLine) (rest : List ℕ) → ReadsLine t l rest → ReadsLine (t ++ more) l (rest ++ more)
 line_more t more l rest x = (ReadsChunkLine-append t l rest more x.0, x.1)
 
 never_line_more : (t m : List ℕ) → NeverHasChunkLine t → NeverHasChunkLine (t ++ m)
 never_line_more t m never more l rest x = never (m ++ more) l rest (x.0, sym (append_assoc t m more) ∙ x.1)
 
-bad_line_more : (t more : List ℕ) → IsBadLine t → IsBadLine (t ++ more)
+pub bad_line_more : (t more : List ℕ) → IsBadLine t → IsBadLine (t ++ more)
 bad_line_more t more (inl never) = inl (take_grows NeverHasChunkLine 4096 t more (λ m. never_line_more t m) never)
 bad_line_more t more (inr long) =
     inr (
@@ -107,7 +107,7 @@ never_trailers_more : (t m : List ℕ) → NeverHasTrailers t → NeverHasTraile
 never_trailers_more t m never more fs e rest x =
     never (m ++ more) fs e rest ((x.0.0, sym (append_assoc t m more) ∙ x.0.1), x.1)
 
-bad_trailers_more : (t more : List ℕ) → IsBadTrailers t → IsBadTrailers (t ++ more)
+pub bad_trailers_more : (t more : List ℕ) → IsBadTrailers t → IsBadTrailers (t ++ more)
 bad_trailers_more t more (inl never) = inl (take_grows NeverHasTrailers 65536 t more (λ m. never_trailers_more t m) never)
 bad_trailers_more t more (inr long) =
     inr (
@@ -129,13 +129,13 @@ bad_chunk_more left t more (bad_end l rest x some fits there b) =
 bad_chunk_more left t more (bad_trailers l rest x none b) =
     bad_trailers l (rest ++ more) (line_more t more l rest x) none (bad_trailers_more rest more b)
 
-chunks_more : (t more : List ℕ) (cs : List Chunk) (u : List ℕ) → ReadsChunks t cs u → ReadsChunks (t ++ more) cs (u ++ more)
+pub chunks_more : (t more : List ℕ) (cs : List Chunk) (u : List ℕ) → ReadsChunks t cs u → ReadsChunks (t ++ more) cs (u ++ more)
 chunks_more t more cs u x =
     let a = chunks_cut cs t u x in
     subst (λ (s : List ℕ). ReadsChunks s cs (u ++ more))
     (sym (append_assoc a.0 u more) ∙ ap (λ (s : List ℕ). s ++ more) (sym a.1)) (a.2 (u ++ more))
 
-end_more : (t more r : List ℕ) → ReadsEnd t r → ReadsEnd (t ++ more) (r ++ more)
+pub end_more : (t more r : List ℕ) → ReadsEnd t r → ReadsEnd (t ++ more) (r ++ more)
 end_more t more r x =
     let a = end_cut t r x in
     subst (λ (s : List ℕ). ReadsEnd s (r ++ more))

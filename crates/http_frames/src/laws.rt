@@ -1,11 +1,15 @@
 //! Laws about the framing that its users stand on. The functions do nothing: each contract is a law.
-ghost use Rattle.std.specs.Prelude.{◌≡◌, ◌++◌, ℕ, List, Bool, [], ◌∷◌, Option, All};
+ghost use Rattle.std.specs.Prelude.{◌≡◌, ◌≢◌, ◌<◌, ◌++◌, ℕ, false, length, List, Bool, [], ◌∷◌, Option, All};
 ghost use Rattle.std.specs.Borrow.{Bor};
 ghost use Rattle.httparse.specs.Grammar.{RequestHead, IsRequestHead, ResponseHead, IsResponseHead, reason_phrase};
 ghost use Rattle.http_frames.specs.declared.FrameFault.{FrameFault};
 ghost use Rattle.http_frames.specs.declared.frames.FrameLimits.{FrameLimits};
+ghost use Rattle.http_frames.specs.declared.frames.Step.{Step};
+ghost use Rattle.http_frames.specs.declared.reader.ReaderStep.{ReaderStep};
+ghost use Rattle.http_frames.specs.FrameSteps.{IsToldExactly};
+ghost use Rattle.http_frames.specs.Feeding.{IsReaderStep, IsAlike};
 ghost use Rattle.http_frames.specs.Fields.{headers_of, values_of};
-ghost use Rattle.http_frames.specs.Frames.{Spells, IsRefused, IsWhole, Request, End, Frames};
+ghost use Rattle.http_frames.specs.Frames.{Spells, IsRefused, IsAccepted, IsAwaited, IsWhole, Request, End, Frames};
 ghost use Rattle.http_frames.specs.Replies.{reply_headers, IsReply};
 ghost use Rattle.http_frames.specs.Writing.{response_bytes, request_bytes};
 ghost use Rattle.http_frames.specs.Written.{IsPhrase, IsValue, IsSendable, IsSendableRequest, IsReadResponse, IsReadRequest};
@@ -26,6 +30,26 @@ pub fn stays()
         → IsWhole limits buf h parts behind → IsWhole limits (buf ++ more) h parts (behind ++ more) }
     ensures refused { (limits : FrameLimits) (buf : List ℕ) (more : List ℕ) (why : FrameFault)
         → IsRefused limits buf why → IsRefused limits (buf ++ more) why }
+    ensures some { (limits : FrameLimits) (buf : List ℕ) (h : RequestHead) (parts : List (List ℕ)) (behind : List ℕ)
+        → IsWhole limits buf h parts behind → length behind < length buf }
+{}
+
+/// An accepted head stays accepted, whatever bytes follow, and it is the only one. In no bytes there
+/// is none and no fault, and more bytes are awaited.
+pub fn one_head()
+    ensures stays { (limits : FrameLimits) (buf : List ℕ) (more : List ℕ) (h : RequestHead)
+        → IsAccepted limits buf h → IsAccepted limits (buf ++ more) h }
+    ensures one { (limits : FrameLimits) (buf : List ℕ) (h : RequestHead) (k : RequestHead)
+        → IsAccepted limits buf h → IsAccepted limits buf k → h ≡ k }
+    ensures none { (limits : FrameLimits) (h : RequestHead) → ¬ (IsAccepted limits [] h) }
+    ensures nothing { (limits : FrameLimits) → 0 < limits.head → IsAwaited limits [] false }
+    ensures fault { (limits : FrameLimits) (buf : List ℕ) (why : FrameFault) → 0 < limits.head → IsRefused limits buf why → buf ≢ [] }
+{}
+
+/// A reader that was fed some bytes answers as `next_request` does on them, but that its body is one part.
+pub fn one_answer()
+    ensures { (limits : FrameLimits) (bytes : List ℕ) (r : ReaderStep) (s : Step)
+        → IsReaderStep limits bytes r → IsToldExactly limits bytes s → IsAlike bytes r s }
 {}
 
 /// What `write_response` and `write_request` write is read again as the same, whatever bytes follow

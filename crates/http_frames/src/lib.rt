@@ -9,16 +9,23 @@ mod frames;
 mod heads;
 mod laws;
 mod plain;
+mod reader;
+#[cfg(test)]
+mod reader_tests;
 mod replies;
 #[cfg(test)]
 mod tests;
+mod turns;
 mod writing;
 
 pub use crate::frames::{
     Body, Frame, FrameLimits, Head, LIMITS, Parts, Step, expects_continue, next_request,
 };
-pub use crate::laws::{one_reading, read_is_writable, stays, written_is_read};
+pub use crate::laws::{
+    one_answer, one_head, one_reading, read_is_writable, stays, written_is_read,
+};
 pub use crate::plain::{PlainFrame, plain_request};
+pub use crate::reader::{FrameReader, ReaderStep};
 pub use crate::replies::{NodeReply, RStep, next_response};
 pub use crate::writing::{NodeRequest, ReplyHeaders, write_request, write_response};
 

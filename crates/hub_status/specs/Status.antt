@@ -14,6 +14,7 @@ use Rattle.wd_bodies.specs.Bodies.{value_bytes}
 -- how a node stands
 abbrev pub availability : Standing → List ℕ
 availability standing.Up = codes "UP"
+availability standing.Suspect = codes "SUSPECT"
 availability standing.Draining = codes "DRAINING"
 availability standing.Down = codes "DOWN"
 availability standing.Gone = codes "GONE"

@@ -1,3 +1,4 @@
+// Commas between items.
 ghost use Rattle.std.specs.Prelude.{◌≡◌, ◌++◌, OnOk, string_bytes};
 ghost use Rattle.hub_status.specs.Joined.{comma};
 

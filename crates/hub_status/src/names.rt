@@ -1,3 +1,4 @@
+// Names of bytes as texts.
 ghost use Rattle.std.specs.Prelude.{◌≡◌};
 
 use grid_types::{NodeAddress, SessionId};

@@ -1,3 +1,4 @@
+// The nodes of a status, with their groups of slots.
 ghost use Rattle.std.specs.Prelude.{◌≡◌, ◌+◌, ◌<◌, ◌≤◌, ◌^◌, ◌++◌, OnOk, length, map, min, string_bytes};
 ghost use Rattle.std.specs.List.{join_with_byte};
 ghost use Rattle.grid_types.specs.Capabilities.{written_caps};
@@ -69,6 +70,7 @@ fn availability(standing: Standing) -> &'static str
 {
     match standing {
         Standing::Up => "UP",
+        Standing::Suspect => "SUSPECT",
         Standing::Draining => "DRAINING",
         Standing::Down => "DOWN",
         Standing::Gone => "GONE",

@@ -1,3 +1,4 @@
+// The slots of a group.
 ghost use Rattle.std.specs.Prelude.{◌≡◌, ◌+◌, ◌<◌, ◌^◌, ◌++◌, OnOk, length, string_bytes};
 ghost use Rattle.std.specs.List.{join_with_byte};
 ghost use Rattle.hub_status.specs.Status.{state_name as name_of, state_session, written_state, written_states};

@@ -1,3 +1,4 @@
+// A status and a queue, byte for byte.
 use crate::{queue_body, status_body};
 use grid_types::{
     Cap, CapValue, Caps, Groups, Moment, NoMemory, NodeAddress, NodeView, NodeViews, Registration,
@@ -37,6 +38,7 @@ fn node(alloc: Global, standing: Standing, states: &[SlotState]) -> Result<NodeV
             address: NodeAddress::from_bytes(b"h:1").ok_or(NoMemory)?,
             max_sessions: 3,
             groups,
+            drain_after: None,
         },
         standing,
         slots,
@@ -68,7 +70,8 @@ fn no_nodes_and_no_requests(rt: HostRuntime) -> Result<(), Fail> {
     Ok(())
 }
 
-// A node with two groups, a slot in each state but one, and a name that needs an escape.
+// A node with two groups, a slot in each state but one, and a name that needs an escape; and one that is suspect and has
+// no slot left.
 #[test]
 fn nodes_and_requests_are_listed(rt: HostRuntime) -> Result<(), Fail> {
     let alloc = rt.alloc();
@@ -79,10 +82,13 @@ fn nodes_and_requests_are_listed(rt: HostRuntime) -> Result<(), Fail> {
         SlotState::Closing,
     ];
     let mut view = view(alloc, true);
-    let node = node(alloc, Standing::Draining, &states)
-        .ok()
-        .ok_or("no memory")?;
-    view.nodes.push(node).ok().ok_or("no memory")?;
+    for (standing, states) in [
+        (Standing::Draining, states.as_slice()),
+        (Standing::Suspect, &[]),
+    ] {
+        let node = node(alloc, standing, states).ok().ok_or("no memory")?;
+        view.nodes.push(node).ok().ok_or("no memory")?;
+    }
     for request in [2, 5] {
         let wait = WaitView {
             request,
@@ -95,7 +101,7 @@ fn nodes_and_requests_are_listed(rt: HostRuntime) -> Result<(), Fail> {
     let status = status_body(alloc, &view).ok().ok_or("no memory")?;
     assert_eq!(rt;
         status.as_bytes(),
-        b"{\"value\":{\"ready\":true,\"message\":\"grid is ready\",\"nodes\":[{\"node\":7,\"name\":\"n\\\"7\",\"address\":\"h:1\",\"availability\":\"DRAINING\",\"maxSessions\":3,\"slots\":[{\"stereotype\":{\"browserName\":\"chrome\"},\"states\":[{\"slot\":0,\"state\":\"BUSY\",\"session\":\"s-1\"}]},{\"stereotype\":{\"browserName\":\"firefox\"},\"states\":[{\"slot\":1,\"state\":\"HELD\",\"session\":null},{\"slot\":2,\"state\":\"CLOSING\",\"session\":null}]}]}]}}".as_slice()
+        b"{\"value\":{\"ready\":true,\"message\":\"grid is ready\",\"nodes\":[{\"node\":7,\"name\":\"n\\\"7\",\"address\":\"h:1\",\"availability\":\"DRAINING\",\"maxSessions\":3,\"slots\":[{\"stereotype\":{\"browserName\":\"chrome\"},\"states\":[{\"slot\":0,\"state\":\"BUSY\",\"session\":\"s-1\"}]},{\"stereotype\":{\"browserName\":\"firefox\"},\"states\":[{\"slot\":1,\"state\":\"HELD\",\"session\":null},{\"slot\":2,\"state\":\"CLOSING\",\"session\":null}]}]},{\"node\":7,\"name\":\"n\\\"7\",\"address\":\"h:1\",\"availability\":\"SUSPECT\",\"maxSessions\":3,\"slots\":[{\"stereotype\":{\"browserName\":\"chrome\"},\"states\":[]},{\"stereotype\":{\"browserName\":\"firefox\"},\"states\":[]}]}]}}".as_slice()
     );
     let queue = queue_body(alloc, &view).ok().ok_or("no memory")?;
     assert_eq!(rt;

@@ -91,6 +91,7 @@ pub enum Answer {
     Freed,
     Swept {
         lapsed: u32,
+        suspected: u32,
         timed_out: u32,
         removed: u32,
     },

@@ -1,12 +1,13 @@
 //! The calls as plain numbers.
 ghost use Rattle.std.specs.Prelude.{◌≡◌, ◌≤◌, true, IfOk};
-ghost use Rattle.grid_types.specs.Permitted.{is_well_sized, is_start_failure};
+ghost use Rattle.grid_types.specs.Permitted.{is_drain_count, is_well_sized, is_start_failure};
 
 use crate::answers::{Answer, Fault};
 use crate::desk::Desk;
-use crate::makings::{address, browser, node, only};
+use crate::makings::{address, ask_to_wait, browser, node, only};
 use grid_types::{
-    Caps, Choices, FailWhy, Moment, NodeNo, Registration, ReqNo, SessionId, SlotId, Text, Words,
+    Caps, Choices, FailWhy, MOST_DRAIN_AFTER, Moment, NodeNo, Registration, ReqNo, SessionId, SlotId,
+    Text, Words,
 };
 use std::alloc::Global;
 
@@ -16,18 +17,22 @@ const BROWSERS: [&str; 3] = ["chrome", "firefox", ""];
 /// A call, with what it is handed as numbers.
 #[derive(Clone, Copy, Debug)]
 pub enum Call {
-    /// A node whose name and address follow from its number, with one slot or a pair.
+    /// A node whose name and address follow from its number, with one slot or a pair. It drains after so many sessions, or
+    /// after none for 0.
     Register {
         name: u64,
         browser: u64,
         pair: bool,
+        drain_after: u32,
     },
     Beat(NodeNo),
     Drain(NodeNo),
     Remove(NodeNo),
+    /// The first choice asks to wait for so many milliseconds, or for no time of its own for 0.
     Enqueue {
         first: u64,
         second: u64,
+        wait_ms: u64,
     },
     Poll(ReqNo),
     Dispatch,
@@ -71,12 +76,22 @@ fn slot_count(pair: bool) -> u16
     if pair { 2 } else { 1 }
 }
 
-/// A node with one slot or two.
+fn drain_count(number: u32) -> Option<u32>
+    ensures { is_drain_count result ≡ true }
+{
+    match number {
+        0 => None,
+        number => Some(number.min(MOST_DRAIN_AFTER)),
+    }
+}
+
+/// A node with one slot or two, that drains after so many sessions, or after none for 0.
 pub fn registration_of(
     alloc: Global,
     name: u64,
     browser: u64,
     pair: bool,
+    drain_after: u32,
 ) -> Result<Registration, Fault>
     ensures { IfOk result (λ r. is_well_sized r ≡ true) }
 {
@@ -91,12 +106,23 @@ pub fn registration_of(
         place,
         offered,
         slot_count(pair),
+        drain_count(drain_after),
     )
 }
 
-/// Two choices, or one where both are the same.
-pub fn choices_of(alloc: Global, first: u64, second: u64) -> Result<Choices, Fault> {
-    let mut choices = only(alloc, caps_of(alloc, first)?)?;
+/// Two choices, or one where both are the same. The first asks to wait for so many milliseconds, or for no time of its own
+/// for 0.
+pub fn choices_of(
+    alloc: Global,
+    first: u64,
+    second: u64,
+    wait_ms: u64,
+) -> Result<Choices, Fault> {
+    let mut caps = caps_of(alloc, first)?;
+    if wait_ms > 0 {
+        ask_to_wait(alloc, &mut caps, wait_ms)?;
+    }
+    let mut choices = only(alloc, caps)?;
     if first != second {
         let other = caps_of(alloc, second)?;
         if choices.items().len() < 64 && choices.push(other).is_err() {
@@ -132,7 +158,8 @@ fn call_of_nodes(desk: &mut Desk, alloc: Global, call: &Call, at: Moment) -> Res
             name,
             browser,
             pair,
-        } => desk.register(registration_of(alloc, name, browser, pair)?, at),
+            drain_after,
+        } => desk.register(registration_of(alloc, name, browser, pair, drain_after)?, at),
         Call::Beat(node) => desk.beat(node, at),
         Call::Drain(node) => desk.drain(node, at),
         Call::Remove(node) => desk.remove(node, at),
@@ -156,7 +183,11 @@ fn call_of_sessions(desk: &mut Desk, call: &Call, at: Moment) -> Result<Answer, 
 /// Makes a call.
 pub fn make(desk: &mut Desk, alloc: Global, call: &Call, at: Moment) -> Result<Answer, Fault> {
     match *call {
-        Call::Enqueue { first, second } => desk.enqueue(choices_of(alloc, first, second)?, at),
+        Call::Enqueue {
+            first,
+            second,
+            wait_ms,
+        } => desk.enqueue(choices_of(alloc, first, second, wait_ms)?, at),
         Call::Poll(request) => desk.poll(request, at),
         Call::Dispatch => desk.dispatch(at),
         Call::Bind {

@@ -189,6 +189,7 @@ impl Desk {
         let swept = self.hub.sweep(at);
         Ok(Answer::Swept {
             lapsed: swept.lapsed,
+            suspected: swept.suspected,
             timed_out: swept.timed_out,
             removed: swept.removed,
         })

@@ -1,10 +1,11 @@
 //! What is handed to a hub in a trial.
 ghost use Rattle.std.specs.Prelude.{◌≡◌, ◌≤◌, true, IfOk};
-ghost use Rattle.grid_types.specs.Permitted.{is_well_sized};
+ghost use Rattle.grid_types.specs.Permitted.{is_drain_count, is_well_sized};
 
 use crate::answers::Fault;
 use grid_types::{
-    Cap, CapValue, Caps, Choices, Groups, NodeAddress, Registration, SlotGroup, Text,
+    Cap, CapValue, Caps, Choices, Groups, NodeAddress, QUEUE_TIME_NAME, Registration, SlotGroup,
+    Text,
 };
 use std::alloc::Global;
 
@@ -21,6 +22,21 @@ pub(crate) fn browser(alloc: Global, name: &str) -> Result<Caps, Fault> {
     }
 }
 
+/// Adds the member by which a request asks to wait for so many milliseconds.
+pub(crate) fn ask_to_wait(alloc: Global, caps: &mut Caps, time_ms: u64) -> Result<(), Fault> {
+    let Ok(text) = format!(in alloc; "{time_ms}") else {
+        return Err(Fault::Memory);
+    };
+    let member = Cap {
+        name: Text::of(alloc, QUEUE_TIME_NAME)?,
+        value: CapValue::Raw(Text::from_string(text)),
+    };
+    match caps.push(member) {
+        Ok(()) => Ok(()),
+        Err(_) => Err(Fault::Memory),
+    }
+}
+
 /// One choice of these capabilities.
 pub(crate) fn only(alloc: Global, caps: Caps) -> Result<Choices, Fault> {
     match Choices::one(alloc, caps) {
@@ -29,16 +45,19 @@ pub(crate) fn only(alloc: Global, caps: Caps) -> Result<Choices, Fault> {
     }
 }
 
-/// A node with so many slots of one browser, all of which may run at once.
+/// A node with so many slots of one browser, all of which may run at once, that drains after a count of sessions where it
+/// has one.
 pub(crate) fn node(
     alloc: Global,
     name: Text,
     address: NodeAddress,
     stereotype: Caps,
     slots: u16,
+    drain_after: Option<u32>,
 ) -> Result<Registration, Fault>
     requires least { 1 ≤ slots }
     requires most { slots ≤ 64 }
+    requires count { is_drain_count drain_after ≡ true }
     ensures { IfOk result (λ r. is_well_sized r ≡ true) }
 {
     let mut groups = Groups::new(alloc);
@@ -54,6 +73,7 @@ pub(crate) fn node(
         address,
         max_sessions: slots,
         groups,
+        drain_after,
     })
 }
 

@@ -24,6 +24,7 @@ const fn node(name: u64, browser: u64) -> Call {
         name,
         browser,
         pair: false,
+        drain_after: 0,
     }
 }
 
@@ -32,6 +33,7 @@ const fn wish(browser: u64) -> Call {
     Call::Enqueue {
         first: browser,
         second: browser,
+        wait_ms: 0,
     }
 }
 
@@ -138,26 +140,89 @@ fn a_number_that_was_not_given_is_no_node(rt: HostRuntime) -> Result<(), Fault> 
     plays(&rt, rt.alloc(), HubConfig::default(), &steps)
 }
 
-// A node lapses after 120,000 ms.
-#[test]
-fn a_silent_node_lapses_with_its_sessions(rt: HostRuntime) -> Result<(), Fault> {
-    let two_slots = Call::Register {
+/// A node of two slots for Chrome, with the name 0.
+const fn pair(drain_after: u32) -> Call {
+    Call::Register {
         name: 0,
         browser: 0,
         pair: true,
-    };
+        drain_after,
+    }
+}
+
+// A node is suspect after 120,000 ms without a beat, and down after 240,000 ms; its sessions run on until then.
+#[test]
+fn a_silent_node_is_suspect_and_lapses_later(rt: HostRuntime) -> Result<(), Fault> {
     let steps = [
-        (0, two_slots, "registered 1"),
+        (0, pair(0), "registered 1"),
         (0, wish(0), "queued 1"),
-        (0, wish(0), "queued 2"),
         (0, Call::Poll(1), "yours 1 on 1.0"),
         (0, bind(1, 0, 0), "bound 1"),
-        (0, Call::Poll(2), "yours 2 on 1.1"),
-        (119_999, Call::Sweep, "swept 0 0 0"),
-        (120_000, Call::Sweep, "swept 1 0 0"),
-        (120_000, Call::Lookup(0), "no session"),
-        (120_000, bind(2, 1, 0), "node gone 1.1 at x:1 to quit"),
-        (120_000, two_slots, "registered 2"),
+        (119_999, Call::Sweep, "swept 0 0 0 0"),
+        (120_000, Call::Sweep, "swept 0 1 0 0"),
+        (120_000, Call::Lookup(0), "1 on 1.0 at x:1"),
+        (120_000, wish(0), "queued 2"),
+        (120_000, Call::Dispatch, "nothing"),
+        (130_000, Call::Beat(1), "beaten"),
+        (130_000, Call::Dispatch, "assigned 2 on 1.1"),
+        (250_000, Call::Sweep, "swept 0 1 0 0"),
+        (370_000, Call::Sweep, "swept 1 0 0 0"),
+        (370_000, Call::Lookup(0), "no session"),
+        (370_000, bind(2, 1, 0), "node gone 1.1 at x:1 to quit"),
+        (370_000, pair(0), "registered 2"),
+    ];
+    plays(&rt, rt.alloc(), HubConfig::default(), &steps)
+}
+
+#[test]
+fn a_suspect_node_drains_from_its_next_beat(rt: HostRuntime) -> Result<(), Fault> {
+    let steps = [
+        (0, node(0, 0), "registered 1"),
+        (120_000, Call::Sweep, "swept 0 1 0 0"),
+        (120_000, Call::Drain(1), "draining"),
+        (120_000, Call::View, "ready false 1 Suspect waiting 0"),
+        (120_000, Call::Beat(1), "beaten"),
+        (120_000, Call::View, "ready false 1 Draining waiting 0"),
+    ];
+    plays(&rt, rt.alloc(), HubConfig::default(), &steps)
+}
+
+#[test]
+fn a_node_drains_after_its_count(rt: HostRuntime) -> Result<(), Fault> {
+    let steps = [
+        (0, pair(1), "registered 1"),
+        (0, wish(0), "queued 1"),
+        (0, wish(0), "queued 2"),
+        (0, Call::Dispatch, "assigned 1 on 1.0"),
+        (0, Call::Dispatch, "nothing"),
+        (0, bind(1, 0, 0), "bound 1"),
+        (0, Call::View, "ready false 1 Draining waiting 1"),
+        (0, end(0, 1), "ended 1.0 at x:1 to quit"),
+        (0, freed(1), "freed"),
+        (0, Call::Sweep, "swept 0 0 0 1"),
+    ];
+    plays(&rt, rt.alloc(), HubConfig::default(), &steps)
+}
+
+#[test]
+fn a_request_waits_as_long_as_it_asks(rt: HostRuntime) -> Result<(), Fault> {
+    let patient = Call::Enqueue {
+        first: 0,
+        second: 0,
+        wait_ms: 2_000,
+    };
+    let hasty = Call::Enqueue {
+        first: 0,
+        second: 0,
+        wait_ms: 999,
+    };
+    let steps = [
+        (10, patient, "queued 1"),
+        (10, hasty, "queued 2"),
+        (2_009, Call::Poll(1), "not yet"),
+        (2_010, Call::Poll(1), "timed out 2010"),
+        (300_009, Call::Poll(2), "not yet"),
+        (300_010, Call::Poll(2), "timed out 300010"),
     ];
     plays(&rt, rt.alloc(), HubConfig::default(), &steps)
 }
@@ -261,10 +326,10 @@ fn a_start_is_the_last_where_the_node_drains(rt: HostRuntime) -> Result<(), Faul
     let steps = [
         (0, node(0, 0), "registered 1"),
         (0, wish(0), "queued 1"),
-        (0, Call::View, "ready true nodes 1 waiting 1"),
+        (0, Call::View, "ready true 1 Up waiting 1"),
         (0, Call::Dispatch, "assigned 1 on 1.0"),
         (0, Call::Drain(1), "draining"),
-        (0, Call::View, "ready false nodes 1 waiting 0"),
+        (0, Call::View, "ready false 1 Draining waiting 0"),
         (0, bad_reply, "refused"),
         (0, Call::Poll(1), "start failed BadReply"),
     ];

@@ -1,6 +1,6 @@
 //! Answers in words.
 use crate::answers::{Answer, Closed, Fault, Held};
-use grid_types::{NodeAddress, Outcome};
+use grid_types::{NodeAddress, Outcome, View};
 use std::alloc::{AllocError, Global};
 
 fn place(address: &NodeAddress) -> &str {
@@ -84,7 +84,19 @@ fn numbers_told(alloc: Global, answer: &Answer) -> Result<String, AllocError> {
     }
 }
 
-/// The answer in words, as "bound 1" or "assigned 3 on 2.0". A view is told as how many nodes and requests it shows.
+/// Whether a session could start, each node with its standing, and how many requests wait.
+fn viewed_told(alloc: Global, view: &View) -> Result<String, AllocError> {
+    let mut text = format!(in alloc; "ready {}", view.ready)?;
+    for node in view.nodes.items() {
+        let shown = format!(in alloc; " {} {:?}", node.node, node.standing)?;
+        text.push_str(shown.as_str())?;
+    }
+    let waiting = format!(in alloc; " waiting {}", view.waiting.items().len())?;
+    text.push_str(waiting.as_str())?;
+    Ok(text)
+}
+
+/// The answer in words, as "bound 1" or "assigned 3 on 2.0".
 pub fn told(alloc: Global, answer: &Answer) -> Result<String, Fault> {
     let text = match answer {
         Answer::At {
@@ -97,13 +109,11 @@ pub fn told(alloc: Global, answer: &Answer) -> Result<String, Fault> {
         }
         Answer::Swept {
             lapsed,
+            suspected,
             timed_out,
             removed,
-        } => format!(in alloc; "swept {lapsed} {timed_out} {removed}"),
-        Answer::Viewed(view) => {
-            let (nodes, waiting) = (view.nodes.items().len(), view.waiting.items().len());
-            format!(in alloc; "ready {} nodes {nodes} waiting {waiting}", view.ready)
-        }
+        } => format!(in alloc; "swept {lapsed} {suspected} {timed_out} {removed}"),
+        Answer::Viewed(view) => viewed_told(alloc, view),
         _ => numbers_told(alloc, answer),
     };
     text.map_err(|_| Fault::Memory)

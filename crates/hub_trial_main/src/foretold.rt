@@ -8,16 +8,16 @@ use crate::foretold::sweeping::{clear, sweep};
 use crate::foretold::viewing::view;
 use crate::scene::Scene;
 use grid_types::{
-    Caps, Change, Choices, EndCause, Found, Moment, NodeAddress, NodeNo, Outcome, Registration,
-    ReqNo, SessionId, SlotId,
+    Caps, Change, Choices, EndCause, Moment, NodeAddress, NodeNo, Outcome, Registration,
+    ReqNo, SessionId, SlotId, request_bytes, time_to_wait,
 };
 use hub_trial::{
     Answer, Call, Closed, Fault, caps_of, cause_of, choices_of, registration_of, session_of,
 };
 use hub_twin::{
-    Settled, asked_of, bound_of, chosen, deadline_of, found_of, idle_binding, is_draining,
-    is_registered, is_supported, is_taken, is_up, listed_count, next_node, next_request,
-    node_named, outcome_of, request_bytes, unsettled_bytes, unsettled_count,
+    Running, Settled, asked_of, bound_of, chosen, deadline_of, idle_binding, is_base_up,
+    is_draining, is_registered, is_supported, is_taken, listed_node, live, next_node,
+    next_request, node_named, outcome_of, unsettled_bytes, unsettled_count,
 };
 use std::alloc::Global;
 
@@ -69,7 +69,7 @@ fn register(alloc: Global, scene: &Scene<'_>, node: Registration) -> Result<Fore
     if let Some(number) = node_named(scene.journal, node.name.as_str()) {
         return Ok(Foretold::says(alloc, Answer::NameTaken(number)));
     }
-    if listed_count(scene.journal) >= NODES {
+    if listed_node(scene.journal, NODES - 1).is_some() {
         return Ok(Foretold::says(alloc, Answer::NodesFull { listed: 1_024 }));
     }
     let number = next_node(scene.config, scene.journal);
@@ -99,7 +99,7 @@ fn at_registered(
 }
 
 fn drain(alloc: Global, scene: &Scene<'_>, node: NodeNo) -> Result<Foretold, Fault> {
-    if is_up(scene.journal, node) {
+    if is_base_up(scene.journal, node) {
         let change = Change::Draining { node, at: scene.at };
         return Foretold::makes(alloc, change, Answer::Draining);
     }
@@ -125,7 +125,8 @@ fn enqueue(alloc: Global, scene: &Scene<'_>, choices: Choices) -> Result<Foretol
     if count >= scene.config.queue_requests || all > MOST_BYTES {
         return Ok(Foretold::says(alloc, Answer::QueueFull { count, bytes }));
     }
-    let deadline = Moment(scene.at.0.saturating_add(scene.config.timeout_ms).min(LAST));
+    let time = time_to_wait(&choices, scene.config);
+    let deadline = Moment(scene.at.0.saturating_add(time).min(LAST));
     let change = Change::Queued {
         request,
         choices,
@@ -215,17 +216,20 @@ fn dispatch(alloc: Global, scene: &Scene<'_>) -> Result<Foretold, Fault> {
 }
 
 fn lookup(scene: &Scene<'_>, session: &SessionId) -> Answer {
-    match found_of(scene.journal, session) {
-        Found::At {
-            slot,
-            address,
-            binding,
-        } => Answer::At {
+    match live(scene.journal, session) {
+        Some(
+            Running {
+                slot,
+                address: Some(address),
+                binding,
+                ..
+            },
+        ) => Answer::At {
             slot,
             address,
             binding,
         },
-        Found::NoSession => Answer::NoSession,
+        _ => Answer::NoSession,
     }
 }
 
@@ -305,7 +309,11 @@ fn foretell_nodes(alloc: Global, scene: &Scene<'_>, call: &Call) -> Result<Foret
             name,
             browser,
             pair,
-        } => register(alloc, scene, registration_of(alloc, name, browser, pair)?),
+            drain_after,
+        } => {
+            let node = registration_of(alloc, name, browser, pair, drain_after)?;
+            register(alloc, scene, node)
+        }
         Call::Beat(node) => {
             at_registered(
                 alloc,
@@ -347,7 +355,11 @@ fn foretell_sessions(alloc: Global, scene: &Scene<'_>, call: &Call) -> Result<Fo
 /// What is to come of a call; NoToken where its token was not given or is spent.
 pub(crate) fn foretell(alloc: Global, scene: &Scene<'_>, call: &Call) -> Result<Foretold, Fault> {
     match *call {
-        Call::Enqueue { first, second } => enqueue(alloc, scene, choices_of(alloc, first, second)?),
+        Call::Enqueue {
+            first,
+            second,
+            wait_ms,
+        } => enqueue(alloc, scene, choices_of(alloc, first, second, wait_ms)?),
         Call::Poll(request) => polled(alloc, scene, request),
         Call::Dispatch => dispatch(alloc, scene),
         Call::Bind {

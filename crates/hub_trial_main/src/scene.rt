@@ -4,7 +4,7 @@ ghost use Rattle.hub_twin.specs.Sizes.{HasSlotNumbers};
 
 use grid_types::{Change, Entry, HubConfig, Moment, NodeAddress, NodeNo, ReqNo, SessionId, SlotId};
 use hub_trial::{Fault, Held};
-use hub_twin::{Assignment, SlotHolder, address_of, clock, has_slot_numbers, holder, live, owner};
+use hub_twin::{Assignment, SlotHolder, address_of, clock, has_slot_numbers, holder, live};
 
 /// A journal and the moment of the next call, which is never before the last one.
 #[derive(Clone, Copy)]
@@ -70,9 +70,9 @@ impl<'a> Scene<'a> {
         }
     }
 
-    /// A slot is closing since an entry of the only caller.
+    /// A slot is closing; each entry is of the only caller.
     pub(crate) fn is_closing(&self, slot: SlotId) -> bool {
-        holder(self.journal, slot) == SlotHolder::Closing && owner(self.journal, slot) == Some(0)
+        holder(self.journal, slot) == SlotHolder::Closing
     }
 
     /// The session is live under the binding.

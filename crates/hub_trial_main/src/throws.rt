@@ -50,6 +50,7 @@ fn call_of_node(scene: &Scene<'_>, dice: &mut Dice) -> Call {
             name: dice.roll(6),
             browser: dice.roll(2),
             pair: dice.roll(2) == 0,
+            drain_after: dice.roll(4) as u32,
         },
         5..9 => Call::Beat(node(scene, dice)),
         9 => Call::Drain(node(scene, dice)),
@@ -130,6 +131,15 @@ fn call_of_start(scene: &Scene<'_>, dice: &mut Dice) -> Call {
     }
 }
 
+/// Mostly no time of its own, else a time that a request may ask for or one that is too short to ask for.
+fn wait(dice: &mut Dice) -> u64 {
+    match dice.roll(6) {
+        0 => 1_000 + dice.roll(1_000),
+        1 => dice.roll(1_000),
+        _ => 0,
+    }
+}
+
 /// The next call.
 pub(crate) fn pick(scene: &Scene<'_>, dice: &mut Dice) -> Call {
     match dice.roll(40) {
@@ -137,6 +147,7 @@ pub(crate) fn pick(scene: &Scene<'_>, dice: &mut Dice) -> Call {
         8..15 => Call::Enqueue {
             first: dice.roll(3),
             second: dice.roll(3),
+            wait_ms: wait(dice),
         },
         15..21 => Call::Poll(request(scene, dice)),
         21..25 => Call::Dispatch,

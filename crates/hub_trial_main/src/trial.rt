@@ -23,12 +23,14 @@ impl From<Fault> for Stop {
     }
 }
 
-/// Deadlines, idleness and lapses come within a few jumps of the clock. Of some hubs the numbers are soon spent.
+/// Deadlines, idleness, suspicions and lapses come within a few jumps of the clock. Of some hubs the numbers are soon spent.
 fn config_of(seed: u64) -> HubConfig {
+    let lapse_ms = 4_000 + seed % 3 * 10_000;
     let config = HubConfig {
         timeout_ms: 6_000,
         idle_ms: 10_000,
-        lapse_ms: 8_000 + seed % 3 * 20_000,
+        lapse_ms,
+        down_ms: lapse_ms * 2,
         queue_requests: 6,
         reject_unsupported: seed % 2 == 0,
         ..HubConfig::default()

@@ -1,38 +1,14 @@
--- In a legal history no node has more than 64 slots.
+-- Whether each slot of each node can be named, by the nodes of the history.
 use Rattle.std.proofs.Common.{◌≡◌, ℕ, ◌≤◌, ◌++◌, ◌||◌, Bool, true, false, List, [], ◌∷◌, length, arith, refl, nat_lt, nat_eq, not, IsTrue, sym}
-use Rattle.std.specs.Prelude.{unwrap_or, option_map, nat_le}
+use Rattle.std.specs.Prelude.{unwrap_or, option_map}
 use Rattle.grid_types.specs.declared.capabilities.Registration.{Registration}
 use Rattle.grid_types.specs.declared.entry.Entry.{Entry}
 use Rattle.grid_types.specs.declared.entry.Change.{Change}
 use Rattle.grid_types.specs.declared.entry.Change.TheVariants as change
-use Rattle.grid_types.specs.declared.config.HubConfig.{HubConfig}
-use Rattle.grid_types.specs.declared.names.Moment.{Moment}
 use Rattle.std.specs.List.{list_any}
 use Rattle.grid_types.specs.Lists.{when, or_else, with_last}
 use Rattle.grid_types.specs.History.{nodes, node_told}
 use Rattle.grid_types.specs.Nodes.{registration_told, registration_of, stereotypes, stereotypes_of}
-use Rattle.grid_types.specs.Legal.{legal}
-use Rattle.grid_types.specs.Permitted.{permitted}
-use Rattle.grid_types.proofs.LegalLemmas.{legal-before, legal-permitted}
-
-registered-few : (c : HubConfig) (H : List Entry) (k n : ℕ) (r : Registration) (at : Moment) → permitted c H k (change.Registered n r at) ≡ true → nat_le (length (stereotypes r.groups)) 64 ≡ true
-unfolding permitted
-registered-few c H k n r at h = grind arith
-
-few-slots : (c : HubConfig) (H : List Entry) (n : ℕ) → legal c H ≡ true → length (stereotypes_of H n) ≤ 64
-few-slots c [] n l = omega arith
-few-slots c (e ∷ H) n l = by_change e.caller e.change (legal-permitted c e H l) (few-slots c H n (legal-before c e H l))
-  where
-    by_node : (b : Bool) (r : Registration) → nat_le (length (stereotypes r.groups)) 64 ≡ true → length (stereotypes_of H n) ≤ 64 → length (unwrap_or (option_map (λ r. stereotypes r.groups) (or_else (when b r) (registration_of H n))) []) ≤ 64
-    by_node true r few before = grind arith
-    by_node false r few before = before
-
-    by_change : (k : ℕ) (ch : Change) → permitted c H k ch ≡ true → length (stereotypes_of H n) ≤ 64 → length (unwrap_or (option_map (λ r. stereotypes r.groups) (or_else (registration_told n ch) (registration_of H n))) []) ≤ 64
-    by_change k (change.Registered m r at) p before = by_node (nat_eq m n) r (registered-few c H k m r at p) before
-    by_change k ch p before = before
-
-pub legal-sized : (c : HubConfig) (H : List Entry) → legal c H ≡ true → (n : ℕ) → length (stereotypes_of H n) ≤ 65_536
-legal-sized c H l n = let few = few-slots c H n l in omega (arith, few)
 
 any-numbered : (n : ℕ) (xs : List ℕ) (x : ℕ) → (nat_eq n x || list_any (nat_eq n) xs) ≡ true → list_any (nat_eq n) (xs ++ x ∷ []) ≡ true
 any-numbered n [] x h = h

@@ -1,4 +1,5 @@
 pub mod Best
 pub mod Meaning
+pub mod Meant
 pub mod Placed
 pub mod Sizes

@@ -9,13 +9,14 @@ ghost use Rattle.hub_twin.specs.Meaning.{as_assignment, fits_at, slot_choices};
 ghost use Rattle.hub_twin.specs.Sizes.{HasSlotNumbers};
 
 use crate::fit::fits;
-use crate::nodes::{max_of, node_told, turned};
-use crate::requests::{choice_count, request_told};
+use crate::meant::{node_told, request_told};
+use crate::nodes::{max_of, turned};
+use crate::requests::choice_count;
 use crate::slots::{load, slot_count};
 use grid_types::{Change, Entry, Moment, NodeNo, ReqNo, SlotId};
 
 /// A slot for a choice of a request.
-#[derive(Clone, Copy, Debug, PartialEq, Eq)]
+#[derive(Clone, Copy, PartialEq, Eq)]
 pub struct Assignment {
     pub request: ReqNo,
     pub choice: u16,

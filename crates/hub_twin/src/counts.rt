@@ -21,7 +21,8 @@ fn moment_of(change: &Change) -> Option<Moment>
         | Change::Cleared { at, .. }
         | Change::Taken { at, .. }
         | Change::Touched { at, .. }
-        | Change::Ended { at, .. } => Some(*at),
+        | Change::Ended { at, .. }
+        | Change::Suspected { at, .. } => Some(*at),
         Change::Freed { .. } => None,
     }
 }

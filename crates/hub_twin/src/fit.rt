@@ -3,16 +3,17 @@ ghost use Rattle.std.specs.List.{list_any, slice_get};
 ghost use Rattle.grid_types.specs.History.{history_of};
 ghost use Rattle.grid_types.specs.Matching.{matches, meets};
 ghost use Rattle.grid_types.specs.Nodes.{stereotypes, stereotypes_of};
-ghost use Rattle.grid_types.specs.Fit.{matches_slot, fits, serves};
+ghost use Rattle.grid_types.specs.Fit.{matches_slot, fits, serves, has_sessions_left};
 ghost use Rattle.grid_types.specs.Permitted.{is_supported, is_last, wanted_of};
 ghost use Rattle.hub_twin.specs.Sizes.{HasSlotNumbers};
 
-use crate::nodes::{is_registered, is_up, max_of, node_told, registration_of};
+use crate::meant::{Nodes, NodesThat};
+use crate::nodes::{bound_count, drain_after_of, is_up, max_of, registration_of};
 use crate::outcomes::is_settled;
-use crate::requests::{choice_of, choices_of, deadline_of, is_barred, is_waiting, reserved_choice};
-use crate::slots::{is_free, load};
-use crate::walk::{Lists, any_listed};
-use grid_types::{Caps, Change, Entry, Moment, NodeNo, ReqNo, SlotGroup, SlotId};
+use crate::requests::{choice_of, deadline_of, is_barred, is_waiting, reserved_choice};
+use crate::slots::{held_count, is_free, load};
+use crate::walk::any_listed;
+use grid_types::{Caps, Entry, Moment, NodeNo, ReqNo, SlotGroup, SlotId};
 use slot_match::Steps;
 use std::marker::Brand;
 use std::sync::ledger::{Blank, Ledger};
@@ -70,6 +71,18 @@ fn matches_slot(journal: &[Entry], request: ReqNo, choice: u16, slot: SlotId) ->
     }
 }
 
+/// The sessions that were bound on the node and its held slots are together fewer than it drains after.
+fn has_sessions_left(journal: &[Entry], node: NodeNo) -> bool
+    requires sized { HasSlotNumbers (history_of journal.now) }
+    ensures { result ≡ has_sessions_left (history_of journal.now) node }
+{
+    let Some(limit) = drain_after_of(journal, node) else {
+        return true;
+    };
+    let bound = bound_count(journal, node) as u64;
+    bound.saturating_add(u64::from(held_count(journal, node))) < u64::from(limit)
+}
+
 /// The slot may be given to the choice of the request at the moment.
 #[tactic(auto, unfolding(grid_types::specs::Fit::fits))]
 pub fn fits(journal: &[Entry], request: ReqNo, choice: u16, slot: SlotId, at: Moment) -> bool
@@ -82,21 +95,32 @@ pub fn fits(journal: &[Entry], request: ReqNo, choice: u16, slot: SlotId, at: Mo
         && is_up(journal, slot.node)
         && !is_barred(journal, request, slot.node)
         && load(journal, slot.node) < u32::from(max_of(journal, slot.node))
+        && has_sessions_left(journal, slot.node)
         && matches_slot(journal, request, choice, slot)
 }
 
 /// A slot of this stereotype may be given for one of the choices.
+#[tactic(auto, using(std::proofs::lemmas::List::Folds::list_any_more))]
 fn matches_any(choices: &[Caps], stereotype: &Caps) -> bool
     ensures { result ≡ list_any (λ wanted. matches wanted stereotype.now) choices.now }
 {
-    choices.iter().any(|wanted| matches(wanted, stereotype))
+    let mut found = false;
+    for wanted in choices {
+        found = found || matches(wanted, stereotype);
+    }
+    found
 }
 
 /// A group with slots matches one of the choices.
+#[tactic(auto, using(std::proofs::lemmas::List::Folds::list_any_more))]
 fn group_serves(groups: &[SlotGroup], choices: &[Caps]) -> bool
     ensures { result ≡ list_any (λ g. nat_lt 0 g.count && list_any (λ wanted. matches wanted g.stereotype) choices.now) groups.now }
 {
-    groups.iter().any(|group| group.count > 0 && matches_any(choices, &group.stereotype))
+    let mut found = false;
+    for group in groups {
+        found = found || (group.count > 0 && matches_any(choices, &group.stereotype));
+    }
+    found
 }
 
 /// A slot of the node matches one of the choices.
@@ -110,79 +134,30 @@ pub fn serves(journal: &[Entry], node: NodeNo, choices: &[Caps]) -> bool
     }
 }
 
-#[derive(Clone, Copy)]
-struct ServingNodes<'a> {
-    journal: &'a [Entry],
-    choices: &'a [Caps],
-}
-
-impl Lists for ServingNodes<'_> {
-    ghost use Rattle.std.specs.Prelude.{◌&&◌};
-    ghost use Rattle.grid_types.specs.History.{node_told, history_of};
-    ghost use Rattle.grid_types.specs.Nodes.{is_registered};
-    ghost use Rattle.grid_types.specs.Fit.{serves};
-
-    type No = NodeNo;
-
-    ghost told = { λ _ c. node_told c };
-
-    ghost passes = { λ s n. is_registered (history_of s.journal.now) n && serves (history_of s.journal.now) n s.choices.now };
-
-    fn told(&self, change: &Change) -> Option<NodeNo> {
-        node_told(change)
-    }
-
-    fn passes(&self, node: NodeNo) -> bool {
-        is_registered(self.journal, node) && serves(self.journal, node, self.choices)
-    }
-}
-
 /// A slot of a registered node matches one of the choices.
 pub fn is_supported(journal: &[Entry], choices: &[Caps]) -> bool
+    requires sized { HasSlotNumbers (history_of journal.now) }
     ensures { result ≡ is_supported (history_of journal.now) choices.now }
 {
-    any_listed(journal, &ServingNodes { journal, choices })
+    any_listed(
+        journal,
+        &Nodes {
+            journal,
+            that: NodesThat::Serve(choices),
+        },
+    )
 }
 
-#[derive(Clone, Copy)]
-struct Alternatives<'a> {
-    journal: &'a [Entry],
-    request: ReqNo,
-    slot: SlotId,
-}
-
-impl Lists for Alternatives<'_> {
-    ghost use Rattle.grid_types.specs.History.{node_told, history_of};
-    ghost use Rattle.grid_types.specs.Permitted.{is_alternative};
-
-    type No = NodeNo;
-
-    ghost told = { λ _ c. node_told c };
-
-    ghost passes = { λ s n. is_alternative (history_of s.journal.now) s.request s.slot n };
-
-    fn told(&self, change: &Change) -> Option<NodeNo> {
-        node_told(change)
-    }
-
-    fn passes(&self, node: NodeNo) -> bool {
-        is_up(self.journal, node)
-            && !is_barred(self.journal, self.request, node)
-            && node != self.slot.node
-            && serves(self.journal, node, choices_of(self.journal, self.request))
-    }
-}
-
-/// A failed start on the slot is the request's last: it is not settled, and no other node that is up and not barred
+/// A failed start on the slot is the request's last: it is not settled, and no other node of base Up that is not barred
 /// has a slot that matches a choice.
 #[tactic(auto, unfolding(grid_types::specs::Permitted::is_last))]
 pub fn is_last(journal: &[Entry], request: ReqNo, slot: SlotId) -> bool
+    requires sized { HasSlotNumbers (history_of journal.now) }
     ensures { result ≡ is_last (history_of journal.now) request slot }
 {
-    let others = Alternatives {
+    let others = Nodes {
         journal,
-        request,
-        slot,
+        that: NodesThat::AreAlternatives { request, slot },
     };
     !is_settled(journal, request) && !any_listed(journal, &others)
 }

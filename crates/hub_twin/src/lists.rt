@@ -1,60 +1,16 @@
-ghost use Rattle.std.specs.Prelude.{◌≡◌, length, nat_lt};
+ghost use Rattle.std.specs.Prelude.{◌≡◌, nat_lt};
 ghost use Rattle.std.specs.List.{slice_get};
 ghost use Rattle.grid_types.specs.Lists.{least};
 ghost use Rattle.grid_types.specs.History.{history_of};
 ghost use Rattle.grid_types.specs.Slots.{listed};
 ghost use Rattle.grid_types.specs.Requests.{waiting_requests};
-ghost use Rattle.grid_types.specs.HubAnswers.{lapsed_nodes, overdue_requests, drained_nodes, idle_bindings};
+ghost use Rattle.grid_types.specs.HubAnswers.{lapsed_nodes, silent_nodes, overdue_requests, drained_nodes, idle_bindings};
 ghost use Rattle.hub_twin.specs.Sizes.{HasSlotNumbers};
 
-use crate::nodes::{beat_of, is_draining, is_registered, node_told};
-use crate::requests::{deadline_of, is_unsettled, is_waiting, request_told};
+use crate::meant::{Nodes, NodesThat, Requests, RequestsThat};
 use crate::sessions::{active, is_live};
-use crate::slots::{ListedNodes, has_slot_in_use};
-use crate::walk::{Lists, count_listed, least_listed, nth_listed};
+use crate::walk::{Lists, least_listed, nth_listed};
 use grid_types::{Change, Entry, HubConfig, Moment, NodeNo, ReqNo};
-
-#[derive(Clone, Copy)]
-struct LapsedNodes<'a> {
-    config: &'a HubConfig,
-    journal: &'a [Entry],
-    at: u64,
-}
-
-impl Lists for LapsedNodes<'_> {
-    ghost use Rattle.std.specs.Prelude.{◌-◌, ◌&&◌, nat_le};
-    ghost use Rattle.grid_types.specs.History.{node_told, history_of};
-    ghost use Rattle.grid_types.specs.Nodes.{is_registered, beat_of};
-
-    type No = NodeNo;
-
-    ghost told = { λ _ c. node_told c };
-
-    ghost passes = { λ s n. is_registered (history_of s.journal.now) n && nat_le s.config.now.lapse_ms (s.at - beat_of (history_of s.journal.now) n) };
-
-    fn told(&self, change: &Change) -> Option<NodeNo> {
-        node_told(change)
-    }
-
-    fn passes(&self, node: NodeNo) -> bool {
-        is_registered(self.journal, node)
-            && self.config.lapse_ms <= self.at.saturating_sub(beat_of(self.journal, node).0)
-    }
-}
-
-/// How many nodes have lapsed at the moment.
-pub fn lapsed_count(config: &HubConfig, journal: &[Entry], at: Moment) -> usize
-    ensures { result ≡ length (lapsed_nodes config.now (history_of journal.now) at.0) }
-{
-    count_listed(
-        journal,
-        &LapsedNodes {
-            config,
-            journal,
-            at: at.0,
-        },
-    )
-}
 
 /// The lapsed node at this place, from 0.
 pub fn lapsed_node(
@@ -63,51 +19,25 @@ pub fn lapsed_node(
     at: Moment,
     place: usize,
 ) -> Option<NodeNo>
+    requires sized { HasSlotNumbers (history_of journal.now) }
     ensures { result ≡ slice_get (lapsed_nodes config.now (history_of journal.now) at.0) place }
 {
-    nth_listed(
-        journal,
-        &LapsedNodes {
-            config,
-            journal,
-            at: at.0,
-        },
-        place,
-    )
+    let that = NodesThat::Lapse { config, at };
+    nth_listed(journal, &Nodes { journal, that }, place)
 }
 
-#[derive(Clone, Copy)]
-struct OverdueRequests<'a> {
-    journal: &'a [Entry],
-    at: u64,
-}
-
-impl Lists for OverdueRequests<'_> {
-    ghost use Rattle.std.specs.Prelude.{◌&&◌, nat_le};
-    ghost use Rattle.grid_types.specs.History.{request_told, history_of};
-    ghost use Rattle.grid_types.specs.Requests.{place, is_unsettled, deadline_of};
-
-    type No = ReqNo;
-
-    ghost told = { λ _ c. request_told c };
-
-    ghost passes = { λ s r. is_unsettled (place (history_of s.journal.now) r) && nat_le (deadline_of (history_of s.journal.now) r) s.at };
-
-    fn told(&self, change: &Change) -> Option<ReqNo> {
-        request_told(change)
-    }
-
-    fn passes(&self, request: ReqNo) -> bool {
-        is_unsettled(self.journal, request) && deadline_of(self.journal, request).0 <= self.at
-    }
-}
-
-/// How many requests that wait or hold a slot are overdue at the moment.
-#[tactic(auto, using(crate::proofs::WalkLemmas::filter_twice))]
-pub fn overdue_count(journal: &[Entry], at: Moment) -> usize
-    ensures { result ≡ length (overdue_requests (history_of journal.now) at.0) }
+/// The node at this place, from 0, among those that are silent at the moment and not suspect yet.
+pub fn silent_node(
+    config: &HubConfig,
+    journal: &[Entry],
+    at: Moment,
+    place: usize,
+) -> Option<NodeNo>
+    requires sized { HasSlotNumbers (history_of journal.now) }
+    ensures { result ≡ slice_get (silent_nodes config.now (history_of journal.now) at.0) place }
 {
-    count_listed(journal, &OverdueRequests { journal, at: at.0 })
+    let that = NodesThat::AreSilent { config, at };
+    nth_listed(journal, &Nodes { journal, that }, place)
 }
 
 /// The overdue request at this place, from 0.
@@ -115,42 +45,8 @@ pub fn overdue_count(journal: &[Entry], at: Moment) -> usize
 pub fn overdue_request(journal: &[Entry], at: Moment, place: usize) -> Option<ReqNo>
     ensures { result ≡ slice_get (overdue_requests (history_of journal.now) at.0) place }
 {
-    nth_listed(journal, &OverdueRequests { journal, at: at.0 }, place)
-}
-
-#[derive(Clone, Copy)]
-struct DrainedNodes<'a> {
-    journal: &'a [Entry],
-    ghost sized: { HasSlotNumbers (history_of journal.now) },
-}
-
-impl Lists for DrainedNodes<'_> {
-    ghost use Rattle.std.specs.Prelude.{◌&&◌, not};
-    ghost use Rattle.grid_types.specs.History.{node_told, history_of};
-    ghost use Rattle.grid_types.specs.Nodes.{is_draining};
-    ghost use Rattle.grid_types.specs.Slots.{has_slot_in_use};
-
-    type No = NodeNo;
-
-    ghost told = { λ _ c. node_told c };
-
-    ghost passes = { λ s n. is_draining (history_of s.journal.now) n && not (has_slot_in_use (history_of s.journal.now) n) };
-
-    fn told(&self, change: &Change) -> Option<NodeNo> {
-        node_told(change)
-    }
-
-    fn passes(&self, node: NodeNo) -> bool {
-        is_draining(self.journal, node) && !has_slot_in_use(self.journal, node)
-    }
-}
-
-/// How many draining nodes have no slot in use.
-pub fn drained_count(journal: &[Entry]) -> usize
-    requires sized { HasSlotNumbers (history_of journal.now) }
-    ensures { result ≡ length (drained_nodes (history_of journal.now)) }
-{
-    count_listed(journal, &DrainedNodes { journal })
+    let that = RequestsThat::AreOverdue(at);
+    nth_listed(journal, &Requests { journal, that }, place)
 }
 
 /// The draining node without a slot in use at this place, from 0.
@@ -158,7 +54,8 @@ pub fn drained_node(journal: &[Entry], place: usize) -> Option<NodeNo>
     requires sized { HasSlotNumbers (history_of journal.now) }
     ensures { result ≡ slice_get (drained_nodes (history_of journal.now)) place }
 {
-    nth_listed(journal, &DrainedNodes { journal }, place)
+    let that = NodesThat::AreDrained;
+    nth_listed(journal, &Nodes { journal, that }, place)
 }
 
 /// The listed node at this place, from 0.
@@ -166,43 +63,16 @@ pub fn listed_node(journal: &[Entry], place: usize) -> Option<NodeNo>
     requires sized { HasSlotNumbers (history_of journal.now) }
     ensures { result ≡ slice_get (listed (history_of journal.now)) place }
 {
-    nth_listed(journal, &ListedNodes { journal }, place)
-}
-
-#[derive(Clone, Copy)]
-struct WaitingRequests<'a>(&'a [Entry]);
-
-impl Lists for WaitingRequests<'_> {
-    ghost use Rattle.grid_types.specs.History.{request_told, history_of};
-    ghost use Rattle.grid_types.specs.Requests.{place, is_waiting};
-
-    type No = ReqNo;
-
-    ghost told = { λ _ c. request_told c };
-
-    ghost passes = { λ s r. is_waiting (place (history_of s.0.now) r) };
-
-    fn told(&self, change: &Change) -> Option<ReqNo> {
-        request_told(change)
-    }
-
-    fn passes(&self, request: ReqNo) -> bool {
-        is_waiting(self.0, request)
-    }
-}
-
-/// How many requests wait.
-pub fn waiting_count(journal: &[Entry]) -> usize
-    ensures { result ≡ length (waiting_requests (history_of journal.now)) }
-{
-    count_listed(journal, &WaitingRequests(journal))
+    let that = NodesThat::AreListed;
+    nth_listed(journal, &Nodes { journal, that }, place)
 }
 
 /// The waiting request at this place, from 0.
 pub fn waiting_request(journal: &[Entry], place: usize) -> Option<ReqNo>
     ensures { result ≡ slice_get (waiting_requests (history_of journal.now)) place }
 {
-    nth_listed(journal, &WaitingRequests(journal), place)
+    let that = RequestsThat::Wait;
+    nth_listed(journal, &Requests { journal, that }, place)
 }
 
 #[derive(Clone, Copy)]

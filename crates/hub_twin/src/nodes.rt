@@ -1,63 +1,109 @@
 ghost use Rattle.std.specs.Prelude.{◌≡◌, ◌&&◌, is_some, option_copied, unwrap_or, [], find, List, ℕ, Option};
 ghost use Rattle.grid_types.specs.declared.capabilities.Registration.{Registration};
-ghost use Rattle.grid_types.specs.History.{history_of, nodes, node_told};
-ghost use Rattle.grid_types.specs.Nodes.{address_of, max_of, standing_of, is_up, is_draining, is_registered, beat_of, turned, registration_of};
+ghost use Rattle.grid_types.specs.History.{history_of, nodes};
+ghost use Rattle.grid_types.specs.Nodes.{address_of, max_of, base_of, standing_of, is_up, is_base_up, is_suspect, is_draining, is_registered, beat_of, turned, registration_of, drain_after_of, binds_on, bound_count};
 ghost use Rattle.grid_types.specs.Permitted.{is_named, has_name};
+ghost use Rattle.hub_twin.specs.Sizes.{HasSlotNumbers};
 
-use crate::walk::{Lists, Tells, first_listed, last_told};
+use crate::meant::{Nodes, NodesThat};
+use crate::walk::{Tells, first_listed, last_told};
 use grid_types::{Change, Entry, Moment, NodeAddress, NodeNo, Registration, Standing};
 
 #[derive(Clone, Copy)]
-struct StandingOf(NodeNo);
+struct BaseOf(NodeNo);
 
-impl Tells for StandingOf {
-    ghost use Rattle.grid_types.specs.Nodes.{standing_told};
+impl Tells for BaseOf {
+    ghost use Rattle.grid_types.specs.Nodes.{base_told};
 
     type Told = Standing;
 
-    ghost told = { λ n _ e. standing_told n.0 e.change };
+    ghost told = { λ n _ e. base_told n.0 e.change };
 
     fn told(&self, _: &[Entry], entry: &Entry) -> Option<Standing> {
-        let (node, standing) = match &entry.change {
+        let (node, base) = match &entry.change {
             Change::Registered { node, .. } => (*node, Standing::Up),
             Change::Draining { node, .. } => (*node, Standing::Draining),
             Change::Removed { node, .. } => (*node, Standing::Gone),
             Change::Lapsed { node, .. } => (*node, Standing::Down),
             _ => return None,
         };
-        if node == self.0 { Some(standing) } else { None }
+        if node == self.0 { Some(base) } else { None }
     }
 }
 
-/// A node's standing, by its last entry that tells one; none before its registration.
-pub fn standing_of(journal: &[Entry], node: NodeNo) -> Option<Standing>
-    ensures { result ≡ standing_of (history_of journal.now) node }
+/// A node's base, by its last entry that tells one; none before its registration.
+fn base_of(journal: &[Entry], node: NodeNo) -> Option<Standing>
+    ensures { result ≡ base_of (history_of journal.now) node }
 {
-    last_told(journal, &StandingOf(node))
+    last_told(journal, &BaseOf(node))
 }
 
-/// The node takes new sessions.
-pub fn is_up(journal: &[Entry], node: NodeNo) -> bool
-    ensures { result ≡ is_up (history_of journal.now) node }
+/// The node was not drained, and may be suspect.
+pub fn is_base_up(journal: &[Entry], node: NodeNo) -> bool
+    ensures { result ≡ is_base_up (history_of journal.now) node }
 {
-    matches!(standing_of(journal, node), Some(Standing::Up))
+    matches!(base_of(journal, node), Some(Standing::Up))
 }
 
-/// The node keeps the sessions that it has and takes no new ones.
+/// The node was drained, and may be suspect.
 pub fn is_draining(journal: &[Entry], node: NodeNo) -> bool
     ensures { result ≡ is_draining (history_of journal.now) node }
 {
-    matches!(standing_of(journal, node), Some(Standing::Draining))
+    matches!(base_of(journal, node), Some(Standing::Draining))
 }
 
-/// The node is up or draining.
+/// The node's base is Up or Draining.
 pub fn is_registered(journal: &[Entry], node: NodeNo) -> bool
     ensures { result ≡ is_registered (history_of journal.now) node }
 {
     matches!(
-        standing_of(journal, node),
+        base_of(journal, node),
         Some(Standing::Up | Standing::Draining)
     )
+}
+
+#[derive(Clone, Copy)]
+struct SuspicionOf(NodeNo);
+
+impl Tells for SuspicionOf {
+    ghost use Rattle.grid_types.specs.Nodes.{suspicion_told};
+
+    type Told = bool;
+
+    ghost told = { λ n _ e. suspicion_told n.0 e.change };
+
+    fn told(&self, _: &[Entry], entry: &Entry) -> Option<bool> {
+        match &entry.change {
+            Change::Suspected { node, .. } if *node == self.0 => Some(true),
+            Change::Beaten { node, .. } if *node == self.0 => Some(false),
+            _ => None,
+        }
+    }
+}
+
+/// The node is registered, was suspected and has not beaten since.
+pub(crate) fn is_suspect(journal: &[Entry], node: NodeNo) -> bool
+    ensures { result ≡ is_suspect (history_of journal.now) node }
+{
+    is_registered(journal, node) && last_told(journal, &SuspicionOf(node)).unwrap_or(false)
+}
+
+/// A node's standing: Suspect while it is suspect, else its base.
+pub fn standing_of(journal: &[Entry], node: NodeNo) -> Option<Standing>
+    ensures { result ≡ standing_of (history_of journal.now) node }
+{
+    if is_suspect(journal, node) {
+        Some(Standing::Suspect)
+    } else {
+        base_of(journal, node)
+    }
+}
+
+/// The node takes new sessions.
+pub(crate) fn is_up(journal: &[Entry], node: NodeNo) -> bool
+    ensures { result ≡ is_up (history_of journal.now) node }
+{
+    matches!(standing_of(journal, node), Some(Standing::Up))
 }
 
 #[derive(Clone, Copy)]
@@ -127,7 +173,39 @@ pub fn max_of(journal: &[Entry], node: NodeNo) -> u16
     }
 }
 
-fn has_name(registration: Option<&Registration>, name: &str) -> bool
+/// The count of sessions after which a node drains, where it has one.
+pub(crate) fn drain_after_of(journal: &[Entry], node: NodeNo) -> Option<u32>
+    ensures { result ≡ drain_after_of (history_of journal.now) node }
+{
+    match registration_of(journal, node) {
+        Some(registration) => registration.drain_after,
+        None => None,
+    }
+}
+
+fn binds_on(node: NodeNo, change: &Change) -> bool
+    ensures { result ≡ binds_on node change.now }
+{
+    match change {
+        Change::Bound { slot, .. } => slot.node == node,
+        _ => false,
+    }
+}
+
+/// How many sessions were bound on a node in all.
+pub fn bound_count(journal: &[Entry], node: NodeNo) -> usize
+    ensures { result ≡ bound_count (history_of journal.now) node }
+{
+    let mut count = 0;
+    for entry in journal {
+        if binds_on(node, &entry.change) {
+            count += 1;
+        }
+    }
+    count
+}
+
+pub(crate) fn has_name(registration: Option<&Registration>, name: &str) -> bool
     ensures { result ≡ has_name name.now (option_copied registration.entry) }
 {
     match registration {
@@ -136,47 +214,18 @@ fn has_name(registration: Option<&Registration>, name: &str) -> bool
     }
 }
 
-/// The number of a node that registers.
-pub(crate) fn node_told(change: &Change) -> Option<NodeNo>
-    ensures { result ≡ node_told change.now }
-{
-    match change {
-        Change::Registered { node, .. } => Some(*node),
-        _ => None,
-    }
-}
-
-#[derive(Clone, Copy)]
-struct NodeNamed<'a> {
-    journal: &'a [Entry],
-    name: &'a str,
-}
-
-impl Lists for NodeNamed<'_> {
-    ghost use Rattle.grid_types.specs.History.{node_told, history_of};
-    ghost use Rattle.grid_types.specs.Permitted.{is_named};
-
-    type No = NodeNo;
-
-    ghost told = { λ _ c. node_told c };
-
-    ghost passes = { λ s n. is_named (history_of s.journal.now) s.name.now n };
-
-    fn told(&self, change: &Change) -> Option<NodeNo> {
-        node_told(change)
-    }
-
-    fn passes(&self, node: NodeNo) -> bool {
-        is_registered(self.journal, node)
-            && has_name(registration_of(self.journal, node), self.name)
-    }
-}
-
 /// The first registered node of this name.
 pub fn node_named(journal: &[Entry], name: &str) -> Option<NodeNo>
+    requires sized { HasSlotNumbers (history_of journal.now) }
     ensures { result ≡ find (is_named (history_of journal.now) name.now) (nodes (history_of journal.now)) }
 {
-    first_listed(journal, &NodeNamed { journal, name })
+    first_listed(
+        journal,
+        &Nodes {
+            journal,
+            that: NodesThat::AreNamed(name),
+        },
+    )
 }
 
 #[derive(Clone, Copy)]

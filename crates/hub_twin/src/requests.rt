@@ -5,8 +5,9 @@ ghost use Rattle.grid_types.specs.Requests.{asked_of, choices_of, choice_of, dea
 ghost use Rattle.grid_types.specs.Permitted.{reserved_choice};
 ghost use Rattle.hub_twin.specs.Meaning.{as_asked};
 
+use crate::meant::{Requests, RequestsThat};
 use crate::outcomes::is_settled;
-use crate::walk::{Lists, Tells, count_listed, last_told};
+use crate::walk::{Tells, count_listed, last_told};
 use grid_types::{Caps, Change, Choices, Entry, Moment, NodeNo, ReqNo, SlotId};
 
 /// What was asked for, until when and by whom.
@@ -139,18 +140,13 @@ pub fn is_waiting(journal: &[Entry], request: ReqNo) -> bool
         && asked_of(journal, request).is_some()
 }
 
-/// The request holds a slot, and is neither settled nor taken.
-pub fn is_held(journal: &[Entry], request: ReqNo) -> bool
-    ensures { result ≡ is_held (place (history_of journal.now) request) }
-{
-    !is_taken(journal, request) && !is_settled(journal, request) && is_reserved(journal, request)
-}
-
 /// The request waits or holds a slot.
 pub fn is_unsettled(journal: &[Entry], request: ReqNo) -> bool
     ensures { result ≡ is_unsettled (place (history_of journal.now) request) }
 {
-    is_waiting(journal, request) || is_held(journal, request)
+    !is_taken(journal, request)
+        && !is_settled(journal, request)
+        && (is_reserved(journal, request) || asked_of(journal, request).is_some())
 }
 
 fn barred_told(request: ReqNo, node: NodeNo, change: &Change) -> bool
@@ -202,41 +198,15 @@ pub fn reserved_choice(journal: &[Entry], slot: SlotId) -> u16
     last_told(journal, &ReservedChoice(slot)).unwrap_or(0)
 }
 
-/// The number of a request that is queued.
-pub(crate) fn request_told(change: &Change) -> Option<ReqNo>
-    ensures { result ≡ request_told change.now }
-{
-    match change {
-        Change::Queued { request, .. } => Some(*request),
-        _ => None,
-    }
-}
-
-#[derive(Clone, Copy)]
-pub(crate) struct UnsettledRequests<'a>(pub(crate) &'a [Entry]);
-
-impl Lists for UnsettledRequests<'_> {
-    ghost use Rattle.grid_types.specs.History.{request_told, history_of};
-    ghost use Rattle.grid_types.specs.Requests.{place, is_unsettled};
-
-    type No = ReqNo;
-
-    ghost told = { λ _ c. request_told c };
-
-    ghost passes = { λ s r. is_unsettled (place (history_of s.0.now) r) };
-
-    fn told(&self, change: &Change) -> Option<ReqNo> {
-        request_told(change)
-    }
-
-    fn passes(&self, request: ReqNo) -> bool {
-        is_unsettled(self.0, request)
-    }
-}
-
 /// How many requests wait or hold a slot.
 pub fn unsettled_count(journal: &[Entry]) -> usize
     ensures { result ≡ length (unsettled (history_of journal.now)) }
 {
-    count_listed(journal, &UnsettledRequests(journal))
+    count_listed(
+        journal,
+        &Requests {
+            journal,
+            that: RequestsThat::AreUnsettled,
+        },
+    )
 }

@@ -3,17 +3,17 @@ ghost use Rattle.grid_types.specs.declared.config.HubConfig.{HubConfig};
 ghost use Rattle.grid_types.specs.Legal.{legal};
 ghost use Rattle.grid_types.specs.History.{history_of};
 ghost use Rattle.grid_types.specs.Bindings.{bound_of};
-ghost use Rattle.grid_types.specs.Sessions.{is_live, last_bound, live, is_live_session, found_of, active};
+ghost use Rattle.grid_types.specs.Sessions.{is_live, last_bound, live, active};
 ghost use Rattle.hub_twin.specs.Meaning.{as_running};
 ghost use Rattle.hub_twin.specs.Placed.{all_there, is_addressed};
 
 use crate::nodes::address_of;
 use crate::slots::bound_slot;
 use crate::walk::{Tells, last_told};
-use grid_types::{Change, Entry, Found, Moment, NodeAddress, ReqNo, SessionId, SlotId};
+use grid_types::{Change, Entry, Moment, NodeAddress, ReqNo, SessionId, SlotId};
 
 /// Where a session runs.
-#[derive(Clone, Copy, Debug, PartialEq, Eq)]
+#[derive(Clone, Copy)]
 pub struct Running {
     pub session: SessionId,
     pub slot: SlotId,
@@ -115,34 +115,6 @@ pub fn live(journal: &[Entry], session: &SessionId) -> Option<Running>
         Some(running) if is_live(journal, running.binding) => Some(running),
         _ => None,
     }
-}
-
-/// Where a session is found; a session whose node had not registered is not, which a legal history has none of.
-pub fn found_of(journal: &[Entry], session: &SessionId) -> Found
-    ensures { (config : HubConfig) → legal config (history_of journal.now) ≡ true → result ≡ found_of (live (history_of journal.now) session.now) }
-{
-    match live(journal, session) {
-        Some(
-            Running {
-                slot,
-                address: Some(address),
-                binding,
-                ..
-            },
-        ) => Found::At {
-            slot,
-            address,
-            binding,
-        },
-        _ => Found::NoSession,
-    }
-}
-
-/// The session runs: its last binding is live.
-pub fn is_live_session(journal: &[Entry], session: &SessionId) -> bool
-    ensures { result ≡ is_live_session (history_of journal.now) session.now }
-{
-    live(journal, session).is_some()
 }
 
 #[derive(Clone, Copy)]

@@ -1,17 +1,18 @@
-ghost use Rattle.std.specs.Prelude.{◌≡◌, ◌-◌, ◌^◌, min, length, option_map, is_some, filter, ◌↔◌, IsTrue};
-ghost use Rattle.grid_types.specs.History.{history_of, nodes};
+ghost use Rattle.std.specs.Prelude.{◌≡◌, ◌-◌, ◌^◌, min, length, option_map, ◌↔◌, IsTrue};
+ghost use Rattle.grid_types.specs.History.{history_of};
 ghost use Rattle.grid_types.specs.Nodes.{stereotypes, stereotypes_of};
 ghost use Rattle.grid_types.specs.Bindings.{bound_slot};
-ghost use Rattle.grid_types.specs.Slots.{holder, holder_told, owner, is_free, load, has_slot_in_use, is_listed, listed};
+ghost use Rattle.grid_types.specs.Slots.{holder, holder_told, is_free, is_held_slot, load, held_count, has_slot_in_use, is_listed};
 ghost use Rattle.hub_twin.specs.Meaning.{as_holder};
 ghost use Rattle.hub_twin.specs.Sizes.{HasSlotNumbers};
 
-use crate::nodes::{is_registered, node_told, registration_of};
-use crate::walk::{Lists, Tells, any_listed, count_listed, last_told};
+use crate::meant::node_told;
+use crate::nodes::{is_registered, registration_of};
+use crate::walk::{Lists, any_listed};
 use grid_types::{Change, Entry, NodeNo, ReqNo, SessionId, SlotGroup, SlotId};
 
 /// What a slot is given to.
-#[derive(Clone, Copy, Debug, PartialEq, Eq)]
+#[derive(Clone, Copy, PartialEq, Eq)]
 pub enum SlotHolder {
     Free,
     /// Reserved for a request.
@@ -93,38 +94,18 @@ pub fn holder(journal: &[Entry], slot: SlotId) -> SlotHolder
     held
 }
 
-#[derive(Clone, Copy)]
-struct OwnerOf(SlotId);
-
-impl Tells for OwnerOf {
-    ghost use Rattle.std.specs.Prelude.{is_some};
-    ghost use Rattle.grid_types.specs.Lists.{when};
-    ghost use Rattle.grid_types.specs.Slots.{holder, holder_told};
-
-    type Told = u64;
-
-    ghost told = { λ s before e. when (is_some (holder_told before s.0 (holder before s.0) e.change)) e.caller };
-
-    fn told(&self, before: &[Entry], entry: &Entry) -> Option<u64> {
-        match holder_told(before, self.0, &holder(before, self.0), &entry.change) {
-            Some(_) => Some(entry.caller),
-            None => None,
-        }
-    }
-}
-
-/// The caller of the last entry that concerns the slot.
-pub fn owner(journal: &[Entry], slot: SlotId) -> Option<u64>
-    ensures { result ≡ owner (history_of journal.now) slot }
-{
-    last_told(journal, &OwnerOf(slot))
-}
-
 /// The slot has no holder.
 pub fn is_free(journal: &[Entry], slot: SlotId) -> bool
     ensures { result ≡ is_free (holder (history_of journal.now) slot) }
 {
     matches!(holder(journal, slot), SlotHolder::Free)
+}
+
+/// The slot is held for a request.
+fn is_held(journal: &[Entry], slot: SlotId) -> bool
+    ensures { result ≡ is_held_slot (holder (history_of journal.now) slot) }
+{
+    matches!(holder(journal, slot), SlotHolder::Held(_))
 }
 
 /// How many slots the groups have, or the type's end where they have more.
@@ -198,6 +179,24 @@ pub fn load(journal: &[Entry], node: NodeNo) -> u32
     load
 }
 
+/// How many slots of a node are held.
+pub(crate) fn held_count(journal: &[Entry], node: NodeNo) -> u32
+    requires sized { HasSlotNumbers (history_of journal.now) }
+    ensures { result ≡ held_count (history_of journal.now) node }
+{
+    let mut held = 0;
+    for index in 0..slot_count(journal, node) {
+        let slot = SlotId {
+            node,
+            index: index as u16,
+        };
+        if is_held(journal, slot) {
+            held += 1;
+        }
+    }
+    held
+}
+
 /// A slot of the node is not free.
 pub fn has_slot_in_use(journal: &[Entry], node: NodeNo) -> bool
     requires sized { HasSlotNumbers (history_of journal.now) }
@@ -212,37 +211,4 @@ pub fn is_listed(journal: &[Entry], node: NodeNo) -> bool
     ensures { result ≡ is_listed (history_of journal.now) node }
 {
     is_registered(journal, node) || has_slot_in_use(journal, node)
-}
-
-#[derive(Clone, Copy)]
-pub(crate) struct ListedNodes<'a> {
-    pub(crate) journal: &'a [Entry],
-    pub ghost sized: { HasSlotNumbers (history_of journal.now) },
-}
-
-impl Lists for ListedNodes<'_> {
-    ghost use Rattle.grid_types.specs.History.{node_told, history_of};
-    ghost use Rattle.grid_types.specs.Slots.{is_listed};
-
-    type No = NodeNo;
-
-    ghost told = { λ _ c. node_told c };
-
-    ghost passes = { λ s n. is_listed (history_of s.journal.now) n };
-
-    fn told(&self, change: &Change) -> Option<NodeNo> {
-        node_told(change)
-    }
-
-    fn passes(&self, node: NodeNo) -> bool {
-        is_listed(self.journal, node)
-    }
-}
-
-/// How many nodes are listed.
-pub fn listed_count(journal: &[Entry]) -> usize
-    requires sized { HasSlotNumbers (history_of journal.now) }
-    ensures { result ≡ length (listed (history_of journal.now)) }
-{
-    count_listed(journal, &ListedNodes { journal })
 }

@@ -1,7 +1,11 @@
+use crate::nodes::{beat_of, max_of, turned};
+use crate::requests::{choice_count, is_barred};
+use crate::sessions::active;
+use crate::slots::{is_free, load};
 use crate::*;
 use grid_types::{
-    Cap, CapValue, Caps, Change, Choices, Entry, FailWhy, Found, Groups, HubConfig, Moment,
-    NodeAddress, Registration, SessionId, SlotGroup, SlotId, SlotState, Standing, Text,
+    Cap, CapValue, Caps, Change, Choices, Entry, FailWhy, Groups, HubConfig, Moment, NodeAddress,
+    Registration, SessionId, SlotGroup, SlotId, SlotState, Standing, Text,
 };
 use std::alloc::Global;
 use std::test::Fail;
@@ -35,6 +39,7 @@ fn node(alloc: Global, name: &str, max_sessions: u16) -> Result<Registration, Fa
         address: NodeAddress::from_bytes(b"127.0.0.1:5555").ok_or("no address")?,
         max_sessions,
         groups,
+        drain_after: Some(u32::from(max_sessions)),
     })
 }
 
@@ -143,18 +148,19 @@ fn a_small_journal_tells_of_its_nodes(rt: HostRuntime) -> Result<(), Fail> {
         (turned(journal, 2) as u64, 7),
         (u64::from(load(journal, 1)), 1),
         (u64::from(load(journal, 2)), 0),
-        (listed_count(journal) as u64, 2),
         (u64::from(max_of(journal, 2)), 2),
-        (lapsed_count(&config, journal, Moment(120_010)) as u64, 2),
-        (drained_count(journal) as u64, 0),
+        (bound_count(journal, 1) as u64, 1),
     ];
     for (got, wanted) in numbers {
         assert_eq!(rt; got, wanted);
     }
+    assert_eq!(rt; lapsed_node(&config, journal, Moment(240_010), 1), Some(2));
+    assert_eq!(rt; silent_node(&config, journal, Moment(120_010), 0), Some(1));
+    assert!(rt; drained_node(journal, 0).is_none());
     assert!(rt; standing_of(journal, 2) == Some(Standing::Up));
     assert!(rt; standing_of(journal, 3).is_none());
     assert_eq!(rt; node_named(journal, "n2"), Some(2));
-    assert_eq!(rt; owner(journal, slot(1, 0)), Some(7));
+    assert_eq!(rt; listed_node(journal, 1), Some(2));
     assert!(rt; is_free(journal, slot(2, 0)));
     assert!(rt; has_ready_node(journal));
     assert!(rt; matches!(slot_state(journal, slot(1, 0)), SlotState::Busy(_)));
@@ -175,8 +181,8 @@ fn a_small_journal_tells_of_its_requests(rt: HostRuntime) -> Result<(), Fail> {
         (unsettled_bytes(journal), 48),
         (deadline_of(journal, 3).0, 1_000),
         (u64::from(choice_count(journal, 3)), 1),
-        (overdue_count(journal, Moment(1_000)) as u64, 2),
-        (waiting_count(journal) as u64, 2),
+        (overdue_request(journal, Moment(1_000), 1).unwrap_or(0), 3),
+        (waiting_request(journal, 1).unwrap_or(0), 3),
         (active(journal, 1).0, 40),
         (
             idle_binding(&config, journal, Moment(300_040)).unwrap_or(0),
@@ -192,8 +198,8 @@ fn a_small_journal_tells_of_its_requests(rt: HostRuntime) -> Result<(), Fail> {
     assert!(rt; is_barred(journal, 2, 2));
     assert!(rt; is_last(journal, 2, slot(1, 0)));
     assert!(rt; !is_last(journal, 3, slot(2, 0)));
-    assert!(rt; is_live_session(journal, &session(b"s1")?));
-    assert!(rt; matches!(found_of(journal, &session(b"s2")?), Found::NoSession));
+    assert!(rt; live(journal, &session(b"s1")?).is_some());
+    assert!(rt; live(journal, &session(b"s2")?).is_none());
     // the first node has no room for a second session, and the second request is barred from the other
     let next = Assignment {
         request: 3,

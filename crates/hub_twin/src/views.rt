@@ -6,12 +6,12 @@ ghost use Rattle.grid_types.specs.Requests.{bytes_of};
 ghost use Rattle.grid_types.specs.Overview.{is_ready, state_of, wait_view};
 ghost use Rattle.hub_twin.specs.Sizes.{HasSlotNumbers};
 
-use crate::bytes::request_bytes;
-use crate::nodes::{is_up, max_of, node_told};
+use crate::meant::{Nodes, NodesThat};
+use crate::nodes::{is_up, max_of};
 use crate::requests::{choice_count, choices_of, deadline_of};
 use crate::slots::{SlotHolder, holder, load, slot_count};
-use crate::walk::{Lists, any_listed};
-use grid_types::{Change, Entry, NodeNo, ReqNo, SlotId, SlotState, WaitView};
+use crate::walk::any_listed;
+use grid_types::{Entry, NodeNo, ReqNo, SlotId, SlotState, WaitView, request_bytes};
 
 fn has_free_slot(journal: &[Entry], node: NodeNo) -> bool
     requires sized { HasSlotNumbers (history_of journal.now) }
@@ -21,7 +21,7 @@ fn has_free_slot(journal: &[Entry], node: NodeNo) -> bool
 }
 
 /// An up node below its greatest number of sessions has a free slot.
-pub fn is_ready(journal: &[Entry], node: NodeNo) -> bool
+pub(crate) fn is_ready(journal: &[Entry], node: NodeNo) -> bool
     requires sized { HasSlotNumbers (history_of journal.now) }
     ensures { result ≡ is_ready (history_of journal.now) node }
 {
@@ -30,37 +30,13 @@ pub fn is_ready(journal: &[Entry], node: NodeNo) -> bool
         && has_free_slot(journal, node)
 }
 
-#[derive(Clone, Copy)]
-struct ReadyNodes<'a> {
-    journal: &'a [Entry],
-    ghost sized: { HasSlotNumbers (history_of journal.now) },
-}
-
-impl Lists for ReadyNodes<'_> {
-    ghost use Rattle.grid_types.specs.History.{node_told, history_of};
-    ghost use Rattle.grid_types.specs.Overview.{is_ready};
-
-    type No = NodeNo;
-
-    ghost told = { λ _ c. node_told c };
-
-    ghost passes = { λ s n. is_ready (history_of s.journal.now) n };
-
-    fn told(&self, change: &Change) -> Option<NodeNo> {
-        node_told(change)
-    }
-
-    fn passes(&self, node: NodeNo) -> bool {
-        is_ready(self.journal, node)
-    }
-}
-
 /// Some node is ready for a session.
 pub fn has_ready_node(journal: &[Entry]) -> bool
     requires sized { HasSlotNumbers (history_of journal.now) }
     ensures { result ≡ list_any (is_ready (history_of journal.now)) (nodes (history_of journal.now)) }
 {
-    any_listed(journal, &ReadyNodes { journal })
+    let that = NodesThat::AreReady;
+    any_listed(journal, &Nodes { journal, that })
 }
 
 /// A slot's state, which does not show for whom it is held.

@@ -3,7 +3,7 @@ ghost use Rattle.std.specs.List.{list_any, slice_get};
 ghost use Rattle.grid_types.specs.declared.entry.Entry.{Entry};
 ghost use Rattle.grid_types.specs.declared.entry.Change.{Change};
 ghost use Rattle.grid_types.specs.Lists.{kept, better, least};
-ghost use Rattle.grid_types.specs.History.{last_told, first_told, all_told, history_of};
+ghost use Rattle.grid_types.specs.History.{last_told, all_told, history_of};
 
 use grid_types::{Change, Entry};
 
@@ -26,17 +26,6 @@ pub(crate) fn last_told<T: Tells>(journal: &[Entry], what: &T) -> Option<T::Told
         last = what.told(&journal[..i], entry).or(last);
     }
     last
-}
-
-/// What the oldest entry that tells something tells.
-pub(crate) fn first_told<T: Tells>(journal: &[Entry], what: &T) -> Option<T::Told>
-    ensures { result ≡ first_told (T.told what.now) (history_of journal.now) }
-{
-    let mut first = None;
-    for (i, entry) in journal.iter().enumerate() {
-        first = first.or(what.told(&journal[..i], entry));
-    }
-    first
 }
 
 /// Numbers that a journal lists, as those of its nodes, and which of them are meant.

@@ -1,6 +1,6 @@
 -- What the table's rows tell of the history.
-use Rattle.std.proofs.Common.{◌≡◌, ℕ, suc, ◌+◌, Bool, true, false, cond, List, [], ◌∷◌, length, filter, refl, sym, ap, ◌∙◌, arith}
-use Rattle.std.specs.Prelude.{Option, None, Some, nat_eq, nat_lt, is_some, option_map, find, position}
+use Rattle.std.proofs.Common.{◌≡◌, ℕ, suc, ◌+◌, ◌<◌, ◌^◌, Bool, true, false, cond, not, ◌&&◌, ◌||◌, List, [], ◌∷◌, length, filter, refl, sym, ap, ◌∙◌, arith}
+use Rattle.std.specs.Prelude.{Option, None, Some, nat_eq, nat_lt, is_some, option_map, option_and_then, min, find, position}
 use Rattle.std.specs.Cmp.{nat_eq_equiv}
 use Rattle.std.specs.List.{position_or_len}
 use Rattle.std.specs.Map.{keys_of}
@@ -12,41 +12,141 @@ use Rattle.grid_types.specs.declared.view.Standing.{Standing}
 use Rattle.grid_types.specs.declared.capabilities.Registration.{Registration}
 use Rattle.grid_types.specs.declared.config.HubConfig.{HubConfig}
 use Rattle.grid_types.specs.History.{nodes}
-use Rattle.grid_types.specs.Nodes.{registration_of, standing_of, beat_of, is_registered}
-use Rattle.grid_types.specs.Slots.{is_listed}
+use Rattle.grid_types.specs.declared.view.Standing.TheVariants as standing
+use Rattle.grid_types.specs.Fit.{has_sessions_left, is_below_limit}
+use Rattle.grid_types.specs.Nodes.{registration_of, base_of, standing_of, beat_of, is_registered, is_base_up, is_draining, is_suspected, is_suspect, is_up, is_spent, is_at_limit, bound_count, stands_up, stands_draining, stands_registered}
+use Rattle.grid_types.specs.Slots.{held_count, has_slot_in_use, is_listed}
 use Rattle.grid_types.specs.Legal.{legal}
 use Rattle.grid_types.specs.Permitted.{is_named}
 use Rattle.node_registry.specs.declared.node_table.NodeRow.{NodeRow}
 use Rattle.node_registry.specs.declared.node_table.NodeTable.{NodeTable}
-use Rattle.node_registry.specs.Table.{Stands, row_of, turn_in, later, is_row_named, NodesInOrder}
-use Rattle.grid_types.proofs.ListedLemmas.{standing-registration, listed-registered}
+use Rattle.node_registry.specs.Table.{Stands, row_of, row_with, most_bound, turn_in, later, is_row_named, NodesInOrder}
+use Rattle.grid_types.proofs.ListedLemmas.{base-registration, listed-registered}
 
--- what the table has of a listed node
-pub record RowListed (H : List Entry) (t : NodeTable) (n : ℕ) : Type 0 where
-  pub registration : Registration
-  pub standing : Standing
-  pub registered : registration_of H n ≡ Some registration
-  pub stands : standing_of H n ≡ Some standing
-  pub row : get nat_eq t.nodes n ≡ Some (record { registration = registration; standing = standing; beat = record { 0 = beat_of H n } })
+-- what a row tells of its node
+pub record RowTells (H : List Entry) (n : ℕ) (row : NodeRow) : Type 0 where
+  pub registration : registration_of H n ≡ Some row.registration
+  pub base : base_of H n ≡ Some row.base
+  pub suspected : is_suspected H n ≡ row.suspected
+  pub bound : row.bound ≡ min (bound_count H n) most_bound
+  pub beat : row.beat ≡ record { 0 = beat_of H n }
 
-pub row-listed : (c : HubConfig) (H : List Entry) (t : NodeTable) (n : ℕ) → Stands t H → legal c H ≡ true → is_listed H n ≡ true → RowListed H t n
-row-listed c H t n s l h = by_standing (listed-registered c H n l h) (standing_of H n) refl
+pub row-tells : (c : HubConfig) (H : List Entry) (t : NodeTable) (n : ℕ) (row : NodeRow) → Stands t H → legal c H ≡ true → Some row ≡ get nat_eq t.nodes n → RowTells H n row
+row-tells c H t n row s l e = by_known (s.kept n) (registration_of H n) refl (base_of H n) refl (e ∙ s.rows n)
   where
-    by_standing : (r : Registration) × (registration_of H n ≡ Some r) → (o : Option Standing) → standing_of H n ≡ o → RowListed H t n
-    by_standing r None e = let both : is_some (standing_of H n) ≡ is_some (registration_of H n) = standing-registration c H n l in absurd (grind (arith, r.1))
-    by_standing r (Some x) e = record { registration = r.0; standing = x; registered = r.1; stands = e; row = s.rows n ∙ (rw (s.listed n h, r.1, e) refl) }
+    by_known : (v : Bool) (o : Option Registration) → registration_of H n ≡ o → (b : Option Standing) → base_of H n ≡ b → Some row ≡ cond v (option_map (row_with H n) (registration_of H n)) None → RowTells H n row
+    by_known false o d b g h = absurd (cc)
+    by_known true None d b g h = let none : Some row ≡ None = h ∙ (rw d refl) in absurd (cc)
+    by_known true (Some r) d None g h = let both : is_some (base_of H n) ≡ is_some (registration_of H n) = base-registration c H n l in absurd (grind (arith, both))
+    by_known true (Some r) d (Some base) g h =
+        let there : Some row ≡ Some (row_with H n r) = h ∙ (rw d refl) in
+        let same : row ≡ row_with H n r = cc in
+        let own : row.base ≡ base = ap (λ (z : NodeRow). z.base) same ∙ (rw g refl) in
+        record {
+          registration = d ∙ ap (λ (z : NodeRow). Some z.registration) (sym same);
+          base = g ∙ ap Some (sym own);
+          suspected = ap (λ (z : NodeRow). z.suspected) (sym same);
+          bound = ap (λ (z : NodeRow). z.bound) same;
+          beat = ap (λ (z : NodeRow). z.beat) same;
+        }
 
-pub standing-found : (c : HubConfig) (H : List Entry) (t : NodeTable) (n : ℕ) (o : Option NodeRow) → Stands t H → legal c H ≡ true → is_listed H n ≡ true → o ≡ get nat_eq t.nodes n → option_map (λ r. r.standing) o ≡ standing_of H n
-standing-found c H t n o s l h e = let there = row-listed c H t n s l h in ap (λ z. option_map (λ r. r.standing) z) (e ∙ there.row) ∙ sym there.stands
+pub absent-unlisted : (c : HubConfig) (H : List Entry) (t : NodeTable) (n : ℕ) → Stands t H → legal c H ≡ true → None ≡ get nat_eq t.nodes n → is_listed H n ≡ false
+absent-unlisted c H t n s l none = by_listed (is_listed H n) refl
+  where
+    by_listed : (v : Bool) → is_listed H n ≡ v → is_listed H n ≡ false
+    by_listed false e = e
+    by_listed true e =
+        let r = listed-registered c H n l e in
+        let there : None ≡ Some (row_with H n r.0) = none ∙ s.rows n ∙ (rw (s.listed n e, r.1) refl) in
+        absurd (cc)
 
-pub beat-found : (c : HubConfig) (H : List Entry) (t : NodeTable) (n : ℕ) (o : Option NodeRow) → Stands t H → legal c H ≡ true → is_listed H n ≡ true → o ≡ get nat_eq t.nodes n → option_map (λ r. r.beat) o ≡ Some (record { 0 = beat_of H n })
-beat-found c H t n o s l h e = let there = row-listed c H t n s l h in ap (λ z. option_map (λ r. r.beat) z) (e ∙ there.row)
+-- a listed node is in the table
+pub listed-there : {X : Type 0} (c : HubConfig) (H : List Entry) (t : NodeTable) (n : ℕ) → Stands t H → legal c H ≡ true → None ≡ get nat_eq t.nodes n → is_listed H n ≡ true → X
+listed-there c H t n s l none on = let e : true ≡ false = sym on ∙ absent-unlisted c H t n s l none in absurd (cc)
 
-pub absent-unregistered : (c : HubConfig) (H : List Entry) (t : NodeTable) (n : ℕ) → Stands t H → legal c H ≡ true → get nat_eq t.nodes n ≡ None → false ≡ is_registered H n
-absent-unregistered c H t n s l none = elim (is_registered H n) as (λ v. is_registered H n ≡ v → false ≡ v) [
-  | true ↦ λ e. let on : is_listed H n ≡ true = rw e refl in let there : get nat_eq t.nodes n ≡ Some _ = (row-listed c H t n s l on).row in absurd (cc)
-  | false ↦ λ e. refl
-] refl
+pub absent-unregistered : (c : HubConfig) (H : List Entry) (t : NodeTable) (n : ℕ) → Stands t H → legal c H ≡ true → None ≡ get nat_eq t.nodes n → is_registered H n ≡ false
+absent-unregistered c H t n s l none = first (is_registered H n) (has_slot_in_use H n) (absent-unlisted c H t n s l none)
+  where
+    first : (a b : Bool) → (a || b) ≡ false → a ≡ false
+    first true b h = cc
+    first false b h = refl
+
+-- what holds only of registered nodes doesn't hold of one that isn't there
+pub absent-fails : (c : HubConfig) (H : List Entry) (t : NodeTable) (n : ℕ) (fact : Bool) → Stands t H → legal c H ≡ true → None ≡ get nat_eq t.nodes n → (fact ≡ true → is_registered H n ≡ true) → false ≡ fact
+absent-fails c H t n fact s l none needs = by_fact fact needs
+  where
+    by_fact : (v : Bool) → (v ≡ true → is_registered H n ≡ true) → false ≡ v
+    by_fact false h = refl
+    by_fact true h = let e : true ≡ false = sym (h refl) ∙ absent-unregistered c H t n s l none in absurd (cc)
+
+draining_registered : (o : Option Standing) → stands_draining o ≡ true → stands_registered o ≡ true
+draining_registered (Some standing.Draining) h = refl
+draining_registered (Some standing.Up) h = cc
+draining_registered (Some standing.Down) h = cc
+draining_registered (Some standing.Gone) h = cc
+draining_registered (Some standing.Suspect) h = cc
+draining_registered None h = cc
+
+pub draining-registered : (H : List Entry) (n : ℕ) → is_draining H n ≡ true → is_registered H n ≡ true
+draining-registered H n h = draining_registered (base_of H n) h
+
+pub suspect-registered : (H : List Entry) (n : ℕ) → is_suspect H n ≡ true → is_registered H n ≡ true
+suspect-registered H n h = first (is_registered H n) (is_suspected H n) h
+  where
+    first : (a b : Bool) → (a && b) ≡ true → a ≡ true
+    first true b h = refl
+    first false b h = cc
+
+-- the base of a row and its suspicion tell how the node stands
+pub row-registered : (H : List Entry) (n : ℕ) (row : NodeRow) → RowTells H n row → stands_registered (Some row.base) ≡ is_registered H n
+row-registered H n row tells = ap stands_registered (sym tells.base)
+
+pub row-base_up : (H : List Entry) (n : ℕ) (row : NodeRow) → RowTells H n row → stands_up (Some row.base) ≡ is_base_up H n
+row-base_up H n row tells = ap stands_up (sym tells.base)
+
+pub row-draining : (H : List Entry) (n : ℕ) (row : NodeRow) → RowTells H n row → stands_draining (Some row.base) ≡ is_draining H n
+row-draining H n row tells = ap stands_draining (sym tells.base)
+
+pub row-suspect : (H : List Entry) (n : ℕ) (row : NodeRow) → RowTells H n row → (stands_registered (Some row.base) && row.suspected) ≡ is_suspect H n
+row-suspect H n row tells = ap (λ b. b && row.suspected) (row-registered H n row tells) ∙ ap (λ b. is_registered H n && b) (sym tells.suspected)
+
+pub row-standing : (H : List Entry) (n : ℕ) (row : NodeRow) → RowTells H n row →
+    Some (cond (stands_registered (Some row.base) && row.suspected) standing.Suspect row.base) ≡ standing_of H n
+row-standing H n row tells =
+    both (stands_registered (Some row.base) && row.suspected) row.base
+    ∙ ap (λ (o : Option Standing). cond (stands_registered (Some row.base) && row.suspected) (Some standing.Suspect) o) (sym tells.base)
+    ∙ ap (λ b. cond b (Some standing.Suspect) (base_of H n)) (row-suspect H n row tells)
+  where
+    both : (b : Bool) (base : Standing) → Some (cond b standing.Suspect base) ≡ cond b (Some standing.Suspect) (Some base)
+    both true base = refl
+    both false base = refl
+
+pub row-up : (H : List Entry) (n : ℕ) (row : NodeRow) → RowTells H n row → (stands_up (Some row.base) && not row.suspected) ≡ is_up H n
+row-up H n row tells = by_base row.base row.suspected ∙ ap stands_up (row-standing H n row tells)
+  where
+    by_base : (base : Standing) (b : Bool) → (stands_up (Some base) && not b) ≡ stands_up (Some (cond (stands_registered (Some base) && b) standing.Suspect base))
+    by_base standing.Up true = refl
+    by_base standing.Up false = refl
+    by_base standing.Draining true = refl
+    by_base standing.Draining false = refl
+    by_base standing.Down b = refl
+    by_base standing.Gone b = refl
+    by_base standing.Suspect b = refl
+
+pub row-spent : (H : List Entry) (n : ℕ) (row : NodeRow) → RowTells H n row → is_at_limit row.registration.drain_after (bound_count H n) ≡ is_spent H n
+row-spent H n row tells = ap (λ (o : Option Registration). is_at_limit (option_and_then (λ (r : Registration). r.drain_after) o) (bound_count H n)) (sym tells.registration)
+
+pub row-left : (H : List Entry) (n held : ℕ) (row : NodeRow) → RowTells H n row → held ≡ held_count H n → is_below_limit row.registration.drain_after (bound_count H n + held) ≡ has_sessions_left H n
+row-left H n held row tells e =
+    ap (λ (k : ℕ). is_below_limit row.registration.drain_after (bound_count H n + k)) e
+    ∙ ap (λ (o : Option Registration). is_below_limit (option_and_then (λ (r : Registration). r.drain_after) o) (bound_count H n + held_count H n)) (sym tells.registration)
+
+-- counts that stand still at their type's end, beside a limit below it
+pub spent-count : (count limit bound : ℕ) → limit < 2 ^ 32 → bound ≡ min count most_bound → nat_eq bound limit ≡ nat_eq count limit
+spent-count count limit bound low e = grind arith
+
+pub left-count : (count held limit bound : ℕ) → limit < 2 ^ 32 → bound ≡ min count most_bound → nat_lt (min (bound + held) most_bound) limit ≡ nat_lt (count + held) limit
+left-count count held limit bound low e = grind arith
 
 -- the place of a node in a list
 pub turn-place : (n : ℕ) (ks : List ℕ) → turn_in ks n ≡ cond (nat_lt (position_or_len (nat_eq n) ks) (length ks)) (position_or_len (nat_eq n) ks + 1) 0
@@ -114,9 +214,9 @@ named-listed H name n h = let on : is_registered H n ≡ true = grind arith in r
 
 -- a row that is there tells whether its node has the name
 row-named : (H : List Entry) (name : List ℕ) (n : ℕ) (row : NodeRow) → row_of H n ≡ Some row → is_row_named name (n, row) ≡ is_named H name n
-row-named H name n row h = by_registration (registration_of H n) refl (standing_of H n) refl
+row-named H name n row h = by_registration (registration_of H n) refl (base_of H n) refl
   where
-    by_registration : (o : Option Registration) → registration_of H n ≡ o → (x : Option Standing) → standing_of H n ≡ x → is_row_named name (n, row) ≡ is_named H name n
+    by_registration : (o : Option Registration) → registration_of H n ≡ o → (x : Option Standing) → base_of H n ≡ x → is_row_named name (n, row) ≡ is_named H name n
     by_registration None d x e = absurd (grind arith)
     by_registration (Some r) d None e = grind arith
     by_registration (Some r) d (Some x) e = grind arith

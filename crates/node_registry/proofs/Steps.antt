@@ -9,7 +9,6 @@ use Rattle.grid_types.specs.declared.entry.Change.{Change}
 use Rattle.grid_types.specs.declared.entry.Change.TheVariants as change
 use Rattle.grid_types.specs.declared.names.SlotId.{SlotId}
 use Rattle.grid_types.specs.declared.names.Moment.{Moment}
-use Rattle.grid_types.specs.declared.view.Standing.TheVariants as standing
 use Rattle.grid_types.specs.declared.capabilities.Registration.{Registration}
 use Rattle.grid_types.specs.declared.config.HubConfig.{HubConfig}
 use Rattle.grid_types.specs.History.{nodes}
@@ -22,7 +21,8 @@ use Rattle.node_registry.specs.declared.node_table.NodeTable.{NodeTable}
 use Rattle.grid_types.specs.Tables.{OthersKeep, entry, is_node_change}
 use Rattle.node_registry.specs.Table.{Stands, row_of, last_turn}
 use Rattle.grid_types.proofs.ListedLemmas.{listed-before, new-node, registration-before, turned-within}
-use Rattle.node_registry.proofs.Rows.{row-Registered, row-Draining, row-Lapsed, with_standing}
+use Rattle.node_registry.proofs.Rows.{new_row, Rewrites, row-uncounted, row-Registered}
+use Rattle.node_registry.proofs.Fresh.{unregistered-unbound, unregistered-trusted}
 use Rattle.node_registry.proofs.Keys.{filter-last, filter-both, remove-filter}
 use Rattle.node_registry.proofs.Turns.{shrink, turn-remove, turn-last, turn-own, turn-within, turn-absent, turn-differ, shrink-order, shrink-zero}
 
@@ -85,8 +85,10 @@ stays t c H k (change.Beaten n at) o s l = absurd (cc)
 stays t c H k (change.Draining n at) o s l = absurd (cc)
 stays t c H k (change.Removed n at) o s l = absurd (cc)
 stays t c H k (change.Lapsed n at) o s l = absurd (cc)
+stays t c H k (change.Suspected n at) o s l = absurd (cc)
+stays t c H k (change.Bound r x y cs at) o s l = absurd (cc)
 stays t c H k (change.Reserved r x choice at) o s l = absurd (cc)
-stays t c H k ch o s l = stands-step c H k ch t t s l s.rows s.order (λ n. refl) (λ n. refl) s.nodes_differ s.turns_differ
+stays t c H k ch o s l = stands-step c H k ch t t s l (λ n. s.rows n ∙ ap (λ (o : Option NodeRow). cond (s.kept n) o None) (sym (row-uncounted H n))) s.order (λ n. refl) (λ n. refl) s.nodes_differ s.turns_differ
 
 -- an entry of another kind leaves what the table keeps
 pub others-keep : OthersKeep Stands is_node_change
@@ -94,18 +96,21 @@ others-keep t k ch o = record { after = λ c H s l. stays t c H k ch o s l }
 
 pub stands-Registered : (c : HubConfig) (H : List Entry) (k m : ℕ) (r : Registration) (at : Moment) (old new : NodeTable) → (s : Stands old H) →
     legal c (entry k (change.Registered m r at) ∷ H) ≡ true →
-    ((n : ℕ) → get nat_eq new.nodes n ≡ cond (nat_eq m n) (Some (record { registration = r; standing = standing.Up; beat = at })) (get nat_eq old.nodes n)) →
+    ((n : ℕ) → get nat_eq new.nodes n ≡ cond (nat_eq m n) (Some (new_row r at)) (get nat_eq old.nodes n)) →
     (get nat_eq old.nodes m ≡ None → keys new.nodes ≡ keys old.nodes ++ m ∷ []) →
     ((n : ℕ) → last_turn new n ≡ last_turn old n) →
     IsUnique nat_eq new.nodes → set.IsUnique nat_eq new.turns → Stands new (entry k (change.Registered m r at) ∷ H)
 stands-Registered c H k m r at old new s l rows order same_turn u v =
     stands-step c H k (change.Registered m r at) old new s l
-    (λ n. rows n ∙ (rw (s.rows n, row-Registered H k m r at n) (by_node n (nat_eq m n) refl)))
+    (λ n. rows n ∙ (rw (s.rows n, row-Registered H k m r at (unregistered-trusted c H m before fresh) (unregistered-unbound c H m before fresh) n) (by_node n (nat_eq m n) refl)))
     (order absent ∙ (rw s.order (sym (filter-last s.kept m (nodes H) here))))
     same_turn (λ n. refl) u v
   where
+    before : legal c H ≡ true
+    before = legal-before c (entry k (change.Registered m r at)) H l
+
     fresh : registration_of H m ≡ None
-    fresh = new-node c H k m r at (legal-before c (entry k (change.Registered m r at)) H l) (legal-permitted c (entry k (change.Registered m r at)) H l)
+    fresh = new-node c H k m r at before (legal-permitted c (entry k (change.Registered m r at)) H l)
 
     here : s.kept m ≡ true
     here = s.unregistered m fresh
@@ -114,29 +119,19 @@ stands-Registered c H k m r at old new s l rows order same_turn u v =
     absent = s.rows m ∙ (rw (here, fresh) refl)
 
     by_node : (n : ℕ) (w : Bool) → nat_eq m n ≡ w →
-        cond w (Some (record { registration = r; standing = standing.Up; beat = at })) (cond (s.kept n) (row_of H n) None) ≡ cond (s.kept n) (cond w (Some (record { registration = r; standing = standing.Up; beat = at })) (row_of H n)) None
+        cond w (Some (new_row r at)) (cond (s.kept n) (row_of H n) None) ≡ cond (s.kept n) (cond w (Some (new_row r at)) (row_of H n)) None
     by_node n true e = let same : m ≡ n = grind arith in let there : s.kept n ≡ true = rw (← same) here in rw there refl
     by_node n false e = refl
 
-pub stands-Draining : (c : HubConfig) (H : List Entry) (k m : ℕ) (at : Moment) (old new : NodeTable) → (s : Stands old H) →
-    legal c (entry k (change.Draining m at) ∷ H) ≡ true →
-    ((n : ℕ) → get nat_eq new.nodes n ≡ cond (nat_eq m n) (option_map (with_standing standing.Draining) (get nat_eq old.nodes n)) (get nat_eq old.nodes n)) →
-    keys new.nodes ≡ keys old.nodes → ((n : ℕ) → last_turn new n ≡ last_turn old n) →
-    IsUnique nat_eq new.nodes → set.IsUnique nat_eq new.turns → Stands new (entry k (change.Draining m at) ∷ H)
-stands-Draining c H k m at old new s l rows order same_turn u v =
-    stands-step c H k (change.Draining m at) old new s l
-    (rows-write H (entry k (change.Draining m at) ∷ H) m (with_standing standing.Draining) s.kept (get nat_eq old.nodes) (get nat_eq new.nodes) (row-Draining H k m at) s.rows rows)
-    (order ∙ s.order) same_turn (λ n. refl) u v
-
-pub stands-Lapsed : (c : HubConfig) (H : List Entry) (k m : ℕ) (at : Moment) (old new : NodeTable) → (s : Stands old H) →
-    legal c (entry k (change.Lapsed m at) ∷ H) ≡ true →
-    ((n : ℕ) → get nat_eq new.nodes n ≡ cond (nat_eq m n) (option_map (with_standing standing.Down) (get nat_eq old.nodes n)) (get nat_eq old.nodes n)) →
-    keys new.nodes ≡ keys old.nodes → ((n : ℕ) → last_turn new n ≡ last_turn old n) →
-    IsUnique nat_eq new.nodes → set.IsUnique nat_eq new.turns → Stands new (entry k (change.Lapsed m at) ∷ H)
-stands-Lapsed c H k m at old new s l rows order same_turn u v =
-    stands-step c H k (change.Lapsed m at) old new s l
-    (rows-write H (entry k (change.Lapsed m at) ∷ H) m (with_standing standing.Down) s.kept (get nat_eq old.nodes) (get nat_eq new.nodes) (row-Lapsed H k m at) s.rows rows)
-    (order ∙ s.order) same_turn (λ n. refl) u v
+-- a write to one node's row
+pub stands-write : (c : HubConfig) (H : List Entry) (k m : ℕ) (ch : Change) (f : NodeRow → NodeRow) (old new : NodeTable) → (s : Stands old H) → legal c (entry k ch ∷ H) ≡ true →
+    Rewrites H (entry k ch) m f → nodes (entry k ch ∷ H) ≡ nodes H → ((n : ℕ) → turned (entry k ch ∷ H) n ≡ turned H n) →
+    ((n : ℕ) → get nat_eq new.nodes n ≡ cond (nat_eq m n) (option_map f (get nat_eq old.nodes n)) (get nat_eq old.nodes n)) →
+    keys new.nodes ≡ keys old.nodes → new.turns ≡ old.turns → IsUnique nat_eq new.nodes → Stands new (entry k ch ∷ H)
+stands-write c H k m ch f old new s l writes same same_turned rows order turns u =
+    stands-step c H k ch old new s l
+    (rows-write H (entry k ch ∷ H) m f s.kept (get nat_eq old.nodes) (get nat_eq new.nodes) writes s.rows rows)
+    (order ∙ s.order ∙ ap (filter s.kept) (sym same)) (λ n. rw turns refl) same_turned u (rw turns s.turns_differ)
 
 -- the node's turn is the last one, and the others keep their order
 pub stands-Reserved : (c : HubConfig) (H : List Entry) (k r : ℕ) (t : SlotId) (choice : ℕ) (at : Moment) (old new : NodeTable) → (s : Stands old H) →
@@ -147,7 +142,7 @@ stands-Reserved c H k r t choice at old new s l same gone ks v = record {
   kept = s.kept;
   unregistered = λ n none. s.unregistered n none;
   listed = λ n there. kept-listed c H k n (change.Reserved r t choice at) old s l there;
-  rows = λ n. rw same (s.rows n);
+  rows = λ n. rw same (s.rows n ∙ ap (λ (o : Option NodeRow). cond (s.kept n) o None) (sym (row-uncounted H n)));
   order = rw same s.order;
   turns = λ a b p q. by_nodes a b (nat_eq t.node a) refl (nat_eq t.node b) refl (s.turns a b p q);
   never = λ a p. by_node a (nat_eq t.node a) refl (s.never a p);
@@ -188,6 +183,9 @@ stands-Reserved c H k r t choice at old new s l same gone ks v = record {
     by_node a true d before = rw (own a d, now a d) (grind arith)
     by_node a false d before = rw (other a d, was a d) (shrink-zero (last_turn old t.node) (last_turn old a) ∙ before)
 
+same-number : (m n : ℕ) → nat_eq m n ≡ true → m ≡ n
+same-number m n e = grind arith
+
 -- a node that is not listed is dropped
 pub stands-forget : (H : List Entry) (m : ℕ) (row : NodeRow) (old new : NodeTable) → (s : Stands old H) → is_listed H m ≡ false → get nat_eq old.nodes m ≡ Some row →
     ((n : ℕ) → get nat_eq new.nodes n ≡ cond (nat_eq m n) None (get nat_eq old.nodes n)) →
@@ -214,7 +212,7 @@ stands-forget H m row old new s off there rows order ks u v = record {
     by_new n none false e = rw (s.unregistered n none, e) refl
 
     by_listed : (n : ℕ) → is_listed H n ≡ true → (w : Bool) → nat_eq m n ≡ w → (s.kept n && not (nat_eq m n)) ≡ true
-    by_listed n on true e = let same : m ≡ n = grind arith in let Off : ℕ → Type 0 = λ z. is_listed H z ≡ false in let not_on : is_listed H n ≡ false = subst Off same off in absurd (grind arith)
+    by_listed n on true e = let same : m ≡ n = same-number m n e in let Off : ℕ → Type 0 = λ z. is_listed H z ≡ false in let not_on : is_listed H n ≡ false = subst Off same off in let e : true ≡ false = sym on ∙ not_on in absurd (cc)
     by_listed n on false e = rw (s.listed n on, e) refl
 
     by_row : (n : ℕ) (v w : Bool) → cond w None (cond v (row_of H n) None) ≡ cond (v && not w) (row_of H n) None

@@ -1,19 +1,33 @@
 -- What it is for a table of nodes to stand for a history.
-use Rattle.std.specs.Prelude.{◌≡◌, ℕ, suc, zero, ◌<◌, Bool, true, cond, nat_eq, nat_lt, List, [], ◌∷◌, Option, None, Some, is_some, ◌&&◌, bytes_eq, option_map, unwrap_or, filter}
+use Rattle.std.specs.Prelude.{◌≡◌, ℕ, suc, zero, ◌<◌, Bool, true, cond, nat_eq, nat_lt, List, [], ◌∷◌, Option, None, Some, is_some, ◌&&◌, bytes_eq, option_map, unwrap_or, filter, min, ◌^◌, ◌-◌}
 use Rattle.indexmap.specs.IndexMap.{get, keys, IsUnique}
 use Rattle.indexmap.specs.IndexSet as set
 use Rattle.grid_types.specs.declared.entry.Entry.{Entry}
 use Rattle.grid_types.specs.declared.view.Standing.TheVariants as standing
+use Rattle.grid_types.specs.declared.capabilities.Registration.{Registration}
 use Rattle.grid_types.specs.History.{nodes}
-use Rattle.grid_types.specs.Nodes.{registration_of, standing_of, beat_of, turned}
-use Rattle.grid_types.specs.Nodes.{stands_registered}
+use Rattle.grid_types.specs.Nodes.{registration_of, base_of, is_suspected, bound_count, beat_of, turned, stands_registered}
 use Rattle.grid_types.specs.Slots.{is_listed}
 use Rattle.node_registry.specs.declared.node_table.NodeRow.{NodeRow}
 use Rattle.node_registry.specs.declared.node_table.NodeTable.{NodeTable}
 
+-- where the count of a node's bound sessions stands still
+abbrev pub most_bound : ℕ
+most_bound = 2 ^ 64 - 1
+
+-- what the table keeps of a node that registered so
+abbrev pub row_with : List Entry → ℕ → Registration → NodeRow
+row_with H n r = record {
+  registration = r;
+  base = unwrap_or (base_of H n) standing.Gone;
+  suspected = is_suspected H n;
+  bound = min (bound_count H n) most_bound;
+  beat = record { 0 = beat_of H n };
+}
+
 -- what the table keeps of a node
 abbrev pub row_of : List Entry → ℕ → Option NodeRow
-row_of H n = option_map (λ r. record { registration = r; standing = unwrap_or (standing_of H n) standing.Gone; beat = record { 0 = beat_of H n } }) (registration_of H n)
+row_of H n = option_map (row_with H n) (registration_of H n)
 
 -- the place of a node in a list, from 1, 0 where it is not there
 abbrev pub later : ℕ → ℕ
@@ -38,7 +52,7 @@ knows t n = is_some (get nat_eq t.nodes n)
 
 -- the row is of a registered node with this name
 abbrev pub is_row_named : List ℕ → ℕ × NodeRow → Bool
-is_row_named name e = stands_registered (Some e.1.standing) && bytes_eq e.1.registration.name name
+is_row_named name e = stands_registered (Some e.1.base) && bytes_eq e.1.registration.name name
 
 -- the table keeps every listed node, and may have dropped those that are not
 pub record Stands (t : NodeTable) (H : List Entry) : Type 0 where

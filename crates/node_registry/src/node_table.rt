@@ -1,14 +1,18 @@
-ghost use Rattle.std.specs.Prelude.{◌≡◌, ℕ, [], true, false, IsOk, OnOk, OnErr, Some, option_map, length, slice_get, find};
+ghost use Rattle.std.specs.Prelude.{◌≡◌, ◌+◌, ℕ, [], true, false, ◌&&◌, not, if◌then◌else◌, min, IsOk, OnOk, OnErr, Some, option_map, length, slice_get, find};
 ghost use Rattle.std.specs.Option.{option_copied};
 ghost use Rattle.grid_types.specs.declared.entry.Change.TheVariants as change;
 ghost use Rattle.grid_types.specs.History.{nodes};
-ghost use Rattle.grid_types.specs.Nodes.{is_registered, standing_of, beat_of, registration_of, stands_registered};
+ghost use Rattle.grid_types.specs.declared.view.Standing.TheVariants as standing;
+ghost use Rattle.grid_types.specs.Fit.{has_sessions_left, is_below_limit};
+ghost use Rattle.grid_types.specs.Nodes.{is_registered, is_base_up, is_draining, is_suspect, is_up, is_spent, is_at_limit, standing_of, beat_of, registration_of, stands_draining, stands_registered, stands_up};
 ghost use Rattle.grid_types.specs.Permitted.{is_named};
-ghost use Rattle.grid_types.specs.Slots.{is_listed};
+ghost use Rattle.grid_types.specs.Slots.{held_count, is_listed};
 ghost use Rattle.grid_types.specs.Tables.{Follows, Keeps, KeepsWhere, Tells};
-ghost use Rattle.node_registry.specs.Table.{Stands, HasRoom, knows, last_turn, known, is_row_named};
+ghost use Rattle.node_registry.specs.Table.{Stands, HasRoom, knows, last_turn, known, is_row_named, most_bound};
 
-use grid_types::{Moment, NoMemory, NodeNo, Registration, ReqNo, SlotId, Standing, Text};
+use grid_types::{
+    Caps, Moment, NoMemory, NodeNo, Registration, ReqNo, SessionId, SlotId, Standing, Text,
+};
 use indexmap::{IndexMap, IndexSet};
 use std::alloc::Global;
 
@@ -16,17 +20,77 @@ use std::alloc::Global;
 #[derive(Drop)]
 pub struct NodeRow {
     registration: Registration,
-    standing: Standing,
+    /// How it stands beside what is suspected: never Suspect.
+    base: Standing,
+    /// It was suspected, and has not beaten since.
+    suspected: bool,
+    /// How many sessions were bound on it; the count stands still at its type's end.
+    bound: u64,
     beat: Moment,
 }
 
 impl NodeRow {
     fn is_registered(&self) -> bool
-        ensures { result ≡ stands_registered (Some self.now.standing) }
+        ensures { result ≡ stands_registered (Some self.now.base) }
     {
-        match self.standing {
+        match self.base {
             Standing::Up | Standing::Draining => true,
-            Standing::Down | Standing::Gone => false,
+            Standing::Down | Standing::Gone | Standing::Suspect => false,
+        }
+    }
+
+    fn is_base_up(&self) -> bool
+        ensures { result ≡ stands_up (Some self.now.base) }
+    {
+        matches!(self.base, Standing::Up)
+    }
+
+    fn is_draining(&self) -> bool
+        ensures { result ≡ stands_draining (Some self.now.base) }
+    {
+        matches!(self.base, Standing::Draining)
+    }
+
+    fn is_suspect(&self) -> bool
+        ensures { result ≡ (stands_registered (Some self.now.base) && self.now.suspected) }
+    {
+        self.is_registered() && self.suspected
+    }
+
+    /// Suspect while the node is suspect, else its base.
+    fn standing(&self) -> Standing
+        ensures { result ≡ (if stands_registered (Some self.now.base) && self.now.suspected then standing.Suspect else self.now.base) }
+    {
+        if self.is_suspect() {
+            Standing::Suspect
+        } else {
+            self.base
+        }
+    }
+
+    fn is_up(&self) -> bool
+        ensures { result ≡ (stands_up (Some self.now.base) && not self.now.suspected) }
+    {
+        self.is_base_up() && !self.suspected
+    }
+
+    /// Whether as many sessions were bound on the node as it drains after.
+    fn is_spent(&self) -> bool
+        ensures { (count : ℕ) → self.now.bound ≡ min count most_bound → result ≡ is_at_limit self.now.registration.drain_after count }
+    {
+        match self.registration.drain_after {
+            Some(limit) => self.bound == u64::from(limit),
+            None => false,
+        }
+    }
+
+    /// Whether the sessions that were bound on the node are together with so many held slots fewer than it drains after.
+    fn has_sessions_left(&self, held: u16) -> bool
+        ensures { (count : ℕ) → self.now.bound ≡ min count most_bound → result ≡ is_below_limit self.now.registration.drain_after (count + held) }
+    {
+        match self.registration.drain_after {
+            Some(limit) => self.bound.saturating_add(u64::from(held)) < u64::from(limit),
+            None => true,
         }
     }
 }
@@ -73,19 +137,31 @@ impl NodeTable {
         self.nodes.reserve(1)?;
         let row = NodeRow {
             registration: registration.clone()?,
-            standing: Standing::Up,
+            base: Standing::Up,
+            suspected: false,
+            bound: 0,
             beat: at,
         };
         self.nodes.insert(node, row).unwrap();
         Ok(())
     }
 
-    /// A node gave a sign. It takes no memory.
+    /// A node gave a sign, which ends that it is suspect. It takes no memory.
     pub fn beaten(&mut self, node: NodeNo, at: Moment)
         ensures { (caller : ℕ) → Follows Stands self.old self.new caller (change.Beaten node at) }
     {
         if let Some(alive) = self.nodes.get_mut(&node) {
             alive.beat = at;
+            alive.suspected = false;
+        }
+    }
+
+    /// A node was silent, and takes no new session before its next sign. It takes no memory.
+    pub fn suspected(&mut self, node: NodeNo, _at: Moment)
+        ensures { (caller : ℕ) → Follows Stands self.old self.new caller (change.Suspected node _at) }
+    {
+        if let Some(silent) = self.nodes.get_mut(&node) {
+            silent.suspected = true;
         }
     }
 
@@ -94,7 +170,7 @@ impl NodeTable {
         ensures { (caller : ℕ) → Follows Stands self.old self.new caller (change.Draining node _at) }
     {
         if let Some(drained) = self.nodes.get_mut(&node) {
-            drained.standing = Standing::Draining;
+            drained.base = Standing::Draining;
         }
     }
 
@@ -103,16 +179,16 @@ impl NodeTable {
         ensures { (caller : ℕ) → Follows Stands self.old self.new caller (change.Removed node _at) }
     {
         if let Some(gone) = self.nodes.get_mut(&node) {
-            gone.standing = Standing::Gone;
+            gone.base = Standing::Gone;
         }
     }
 
-    /// A node gave no sign for too long. It takes no memory.
+    /// A node gave no sign for too long, and is down. It takes no memory.
     pub fn lapsed(&mut self, node: NodeNo, _at: Moment)
         ensures { (caller : ℕ) → Follows Stands self.old self.new caller (change.Lapsed node _at) }
     {
         if let Some(lost) = self.nodes.get_mut(&node) {
-            lost.standing = Standing::Down;
+            lost.base = Standing::Down;
         }
     }
 
@@ -143,6 +219,22 @@ impl NodeTable {
         Ok(())
     }
 
+    /// A session was bound on a slot of a node. It takes no memory.
+    pub fn bound(
+        &mut self,
+        _request: ReqNo,
+        slot: SlotId,
+        _session: SessionId,
+        _caps: &Caps,
+        _at: Moment,
+    )
+        ensures { (caller : ℕ) → Follows Stands self.old self.new caller (change.Bound _request slot _session _caps.now _at) }
+    {
+        if let Some(used) = self.nodes.get_mut(&slot.node) {
+            used.bound = used.bound.saturating_add(1);
+        }
+    }
+
     /// Drops what is known of a node that is not listed any more. The table stands for the same history as before.
     pub fn forget(&mut self, node: NodeNo)
         ensures stands { KeepsWhere Stands (λ H. is_listed H node ≡ false) self.old self.new }
@@ -153,7 +245,7 @@ impl NodeTable {
         }
     }
 
-    /// Whether the node is Up or Draining. It takes no memory.
+    /// Whether the base of the node is Up or Draining. It takes no memory.
     pub fn is_registered(&self, node: NodeNo) -> bool
         ensures { Tells Stands self.now (λ H. result ≡ is_registered H node) }
     {
@@ -163,11 +255,72 @@ impl NodeTable {
         }
     }
 
+    /// Whether the base of the node is Up: it was not drained, and may be suspect. It takes no memory.
+    pub fn is_base_up(&self, node: NodeNo) -> bool
+        ensures { Tells Stands self.now (λ H. result ≡ is_base_up H node) }
+    {
+        match self.nodes.get(&node) {
+            Some(row) => row.is_base_up(),
+            None => false,
+        }
+    }
+
+    /// Whether the base of the node is Draining: it was drained, and may be suspect. It takes no memory.
+    pub fn is_draining(&self, node: NodeNo) -> bool
+        ensures { Tells Stands self.now (λ H. result ≡ is_draining H node) }
+    {
+        match self.nodes.get(&node) {
+            Some(row) => row.is_draining(),
+            None => false,
+        }
+    }
+
+    /// Whether the node is registered, was suspected and has not beaten since. It takes no memory.
+    pub fn is_suspect(&self, node: NodeNo) -> bool
+        ensures { Tells Stands self.now (λ H. result ≡ is_suspect H node) }
+    {
+        match self.nodes.get(&node) {
+            Some(row) => row.is_suspect(),
+            None => false,
+        }
+    }
+
+    /// Whether the node takes new sessions: its base is Up, and it is not suspect. It takes no memory.
+    pub fn is_up(&self, node: NodeNo) -> bool
+        ensures { Tells Stands self.now (λ H. result ≡ is_up H node) }
+    {
+        match self.nodes.get(&node) {
+            Some(row) => row.is_up(),
+            None => false,
+        }
+    }
+
     /// How the node stands. It takes no memory.
     pub fn standing(&self, node: NodeNo) -> Option<Standing>
         ensures { Tells Stands self.now (λ H. is_listed H node ≡ true → result ≡ standing_of H node) }
     {
-        Some(self.nodes.get(&node)?.standing)
+        Some(self.nodes.get(&node)?.standing())
+    }
+
+    /// Whether as many sessions were bound on a listed node as it drains after. It takes no memory.
+    pub fn is_spent(&self, node: NodeNo) -> bool
+        ensures { Tells Stands self.now (λ H. is_listed H node ≡ true → result ≡ is_spent H node) }
+    {
+        match self.nodes.get(&node) {
+            Some(row) => row.is_spent(),
+            None => false,
+        }
+    }
+
+    /// Whether the sessions that were bound on a listed node and its held slots, so many, are together fewer than it
+    /// drains after. It takes no memory.
+    pub fn has_sessions_left(&self, node: NodeNo, held: u16) -> bool
+        ensures { Tells Stands self.now (λ H. is_listed H node ≡ true → held ≡ held_count H node → result ≡ has_sessions_left H node) }
+    {
+        match self.nodes.get(&node) {
+            Some(row) => row.has_sessions_left(held),
+            None => false,
+        }
     }
 
     /// The moment of the node's last sign. It takes no memory.

@@ -1,8 +1,11 @@
 use crate::{NodeTable, known_nodes_are_in_order, other_changes_keep, turns_order_like_history};
-use grid_types::{Groups, Moment, NodeAddress, Registration, SlotId, Standing, Text};
+use grid_types::{
+    Caps, Groups, Moment, NodeAddress, Registration, SessionId, SlotId, Standing, Text,
+};
 use std::test::Fail;
 
-// Nodes 1 and 2: slots are reserved on 1, 2 and 1, node 1 drains and beats, node 2 lapses and is dropped.
+// Nodes 1 and 2: slots are reserved on 1, 2 and 1, node 1 runs one of its two sessions, is suspect, drains and beats, node
+// 2 lapses and is dropped.
 #[test]
 fn nodes_come_and_go(rt: HostRuntime) -> Result<(), Fail> {
     let address = NodeAddress::from_bytes(b"127.0.0.1:5555").ok_or("no address")?;
@@ -13,6 +16,7 @@ fn nodes_come_and_go(rt: HostRuntime) -> Result<(), Fail> {
             address,
             max_sessions: 1,
             groups: Groups::new(rt.alloc()),
+            drain_after: (node == 1).then_some(2),
         };
         table
             .registered(node, &registration, Moment(10))
@@ -26,7 +30,15 @@ fn nodes_come_and_go(rt: HostRuntime) -> Result<(), Fail> {
     }
     assert!(rt; table.last_reserved(2) < table.last_reserved(1));
     assert_eq!(rt; table.last_reserved(3), 0);
+    let session = SessionId::from_bytes(b"a").ok_or("no session id")?;
+    let slot = SlotId { node: 1, index: 0 };
+    table.bound(3, slot, session, &Caps::new(rt.alloc()), Moment(11));
+    assert!(rt; table.has_sessions_left(1, 0) && !table.has_sessions_left(1, 1));
+    assert!(rt; !table.is_spent(1) && table.is_base_up(1) && table.is_up(1));
+    table.suspected(1, Moment(12));
     table.draining(1, Moment(12));
+    assert!(rt; table.standing(1) == Some(Standing::Suspect));
+    assert!(rt; table.is_suspect(1) && table.is_draining(1) && !table.is_up(1));
     table.beaten(1, Moment(13));
     table.lapsed(2, Moment(14));
     assert!(rt; table.standing(1) == Some(Standing::Draining));

@@ -4,12 +4,13 @@
 mod number;
 mod place;
 mod routed;
+mod router;
 mod table;
 mod target;
 
 pub use number::node_number;
 pub use routed::{RouteFault, Routed};
-pub use table::route;
+pub use router::{Router, route};
 
 #[cfg(test)]
 mod tests;

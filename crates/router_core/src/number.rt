@@ -1,3 +1,4 @@
+// A node's id as its number.
 ghost use Rattle.std.specs.Prelude.{◌≡◌, ◌≢◌, ◌<◌, ◌^◌, ℕ, MatchOption, decimal};
 
 use grid_types::NodeNo;

@@ -1,3 +1,4 @@
+// A request's target, and its path.
 ghost use Rattle.std.specs.Prelude.{◌≡◌};
 ghost use Rattle.router_core.specs.Patterns.{up_to as up_to_first, from_first};
 ghost use Rattle.router_core.specs.Targets.{own_target as own_target_of, without_host as without_host_of, without_prefix as without_prefix_of, path_or_root, path_of as path_in};

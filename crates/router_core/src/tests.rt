@@ -1,9 +1,11 @@
-use crate::{RouteFault, Routed, node_number, route};
+// Paths and methods with their routes, and ids of nodes.
+use crate::{RouteFault, Routed, Router, node_number, route};
 use std::test::Fail;
 
 // The table of paths and methods, and what comes before and behind a path.
 #[test]
 fn requests_have_their_routes(rt: HostRuntime) -> Result<(), Fail> {
+    let router = Router::new(rt.alloc()).ok().ok_or("no memory")?;
     let relayed = Routed::Relay {
         id: b"a",
         target: b"/session/a/url?x=1",
@@ -54,11 +56,12 @@ fn requests_have_their_routes(rt: HostRuntime) -> Result<(), Fail> {
         ),
     ] {
         assert_eq!(rt;
-            route(rt.alloc(), method.as_bytes(), target.as_bytes()),
+            router.route(method.as_bytes(), target.as_bytes()),
             want,
             "{method} {target}"
         );
     }
+    assert_eq!(rt; route(rt.alloc(), b"GET", b"/status"), Ok(Routed::Status));
     assert_eq!(rt;
         route(rt.alloc(), b"GET", b"/session/\xff/url"),
         Err(RouteFault::UnknownCommand)

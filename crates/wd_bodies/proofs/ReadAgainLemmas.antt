@@ -13,7 +13,7 @@ use Rattle.grid_types.specs.declared.capabilities.CapValue.TheVariants as cap
 use Rattle.wd_bodies.specs.declared.code.ErrorCode.{ErrorCode}
 use Rattle.wd_bodies.specs.declared.code.ErrorCode.TheVariants as code
 use Rattle.wd_bodies.specs.Codes.{code_text}
-use Rattle.wd_bodies.specs.Bodies.{value_bytes, error_bytes, created_bytes, start_bytes}
+use Rattle.wd_bodies.specs.Bodies.{value_bytes, error_bytes, created_bytes, for_nodes, start_bytes}
 use Rattle.wd_bodies.specs.ReadAgain.{value_json, error_json, caps_members, created_json, start_json}
 use Rattle.wd_bodies.proofs.WrittenMembers.{caps-read}
 
@@ -105,14 +105,15 @@ created-read session caps ms named_ e within =
 abbrev start_caps : List Cap → List Cap
 start_caps wanted = raw (codes "capabilities") (written_caps (raw (codes "alwaysMatch") (written_caps wanted)))
 
-start-written : (wanted : List Cap) → start_bytes wanted ≡ written_caps (start_caps wanted)
+start-written : (wanted : List Cap) → start_bytes wanted ≡ written_caps (start_caps (for_nodes wanted))
 unfolding start_bytes written_caps
 start-written wanted = simp append_assoc
 
-pub start-read : (wanted : List Cap) (ms : Members) → caps_members wanted ≡ Some ms → members_depth ms ≤ 125 → document (start_bytes wanted) ≡ Some (start_json ms)
+pub start-read : (wanted : List Cap) (ms : Members) → caps_members (for_nodes wanted) ≡ Some ms → members_depth ms ≤ 125 → document (start_bytes wanted) ≡ Some (start_json ms)
 start-read wanted ms e within =
-    let always = caps-member (codes "alwaysMatch") (written_caps wanted) (object ms) (caps-read wanted ms e (omega arith)) in
-    let inner = caps-read (raw (codes "alwaysMatch") (written_caps wanted)) (member (codes "alwaysMatch") (object ms) no_members) always (omega arith) in
-    let whole = caps-member (codes "capabilities") (written_caps (raw (codes "alwaysMatch") (written_caps wanted))) (object (member (codes "alwaysMatch") (object ms) no_members)) inner in
+    let asked = for_nodes wanted in
+    let always = caps-member (codes "alwaysMatch") (written_caps asked) (object ms) (caps-read asked ms e (omega arith)) in
+    let inner = caps-read (raw (codes "alwaysMatch") (written_caps asked)) (member (codes "alwaysMatch") (object ms) no_members) always (omega arith) in
+    let whole = caps-member (codes "capabilities") (written_caps (raw (codes "alwaysMatch") (written_caps asked))) (object (member (codes "alwaysMatch") (object ms) no_members)) inner in
     ap document (start-written wanted)
-    ∙ caps-read (start_caps wanted) (member (codes "capabilities") (object (member (codes "alwaysMatch") (object ms) no_members)) no_members) whole (omega arith)
+    ∙ caps-read (start_caps asked) (member (codes "capabilities") (object (member (codes "alwaysMatch") (object ms) no_members)) no_members) whole (omega arith)

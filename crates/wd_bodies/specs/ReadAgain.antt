@@ -9,7 +9,7 @@ use Rattle.grid_types.specs.declared.capabilities.CapValue.{CapValue}
 use Rattle.grid_types.specs.declared.capabilities.CapValue.TheVariants as value
 use Rattle.wd_bodies.specs.declared.code.ErrorCode.{ErrorCode}
 use Rattle.wd_bodies.specs.Codes.{code_text}
-use Rattle.wd_bodies.specs.Bodies.{value_bytes, error_bytes, created_bytes, start_bytes}
+use Rattle.wd_bodies.specs.Bodies.{value_bytes, error_bytes, created_bytes, for_nodes, start_bytes}
 
 -- ---- values
 
@@ -64,4 +64,6 @@ CreatedAreReadAgain =
 
 -- the body of a request for a session
 abbrev pub StartsAreReadAgain : Type 0
-StartsAreReadAgain = (wanted : List Cap) (ms : Members) → caps_members wanted ≡ Some ms → members_depth ms ≤ 125 → document (start_bytes wanted) ≡ Some (start_json ms)
+StartsAreReadAgain =
+    (wanted : List Cap) (ms : Members) → caps_members (for_nodes wanted) ≡ Some ms → members_depth ms ≤ 125
+    → document (start_bytes wanted) ≡ Some (start_json ms)

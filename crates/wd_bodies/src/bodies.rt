@@ -1,7 +1,8 @@
+// The bodies of responses, and of the request that starts a session.
 ghost use Rattle.std.specs.Prelude.{◌≡◌, IfOk};
 ghost use Rattle.wd_bodies.specs.Bodies.{value_bytes, error_bytes, created_bytes, start_bytes};
 
-use crate::capabilities::{caps_text, json_text};
+use crate::capabilities::{caps_text, json_text, text_for_nodes};
 use crate::code::ErrorCode;
 use grid_types::{Bytes, Caps, NoMemory, SessionId};
 use std::alloc::Global;
@@ -40,12 +41,13 @@ pub fn created_body(alloc: Global, session: &SessionId, caps: &Caps) -> Result<B
     Ok(Bytes::from_vec(body))
 }
 
-/// The body of the request that asks a node for a session with these capabilities.
+/// The body of the request that asks a node for a session with these capabilities (WebDriver §8.1). A member
+/// `grid:queueTimeout` tells how long the request waits, which is for the hub alone, and is left out.
 pub fn start_body(alloc: Global, wanted: &Caps) -> Result<Bytes, NoMemory>
     ensures { IfOk result (λ b. b ≡ start_bytes wanted.now) }
 {
     let mut body = String::from_str(alloc, "{\"capabilities\":{\"alwaysMatch\":")?;
-    body.push_str(caps_text(alloc, wanted)?.as_str())?;
+    body.push_str(text_for_nodes(alloc, wanted)?.as_str())?;
     body.push_str("}}")?;
     Ok(Bytes::from_vec(body.into_bytes()))
 }

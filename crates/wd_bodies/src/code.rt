@@ -1,3 +1,4 @@
+// The error codes, and the statuses that go with them.
 ghost use Rattle.std.specs.Prelude.{◌≡◌, [], unwrap_or};
 ghost use Rattle.http.specs.StatusCode.{IsStatusCode, reason_phrase};
 ghost use Rattle.wd_bodies.specs.Codes.{code_text, code_status};

@@ -21,7 +21,7 @@ pub fn created_are_read_again()
     ensures { CreatedAreReadAgain }
 {}
 
-/// The body of a request for a session is JSON with the capabilities that are wanted.
+/// The body of a request for a session is JSON with the capabilities that are wanted, those for the hub alone left out.
 pub fn starts_are_read_again()
     ensures { StartsAreReadAgain }
 {}

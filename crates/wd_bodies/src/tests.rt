@@ -1,3 +1,4 @@
+// Bodies, statuses and phrases, byte for byte.
 use crate::{
     ErrorCode, caps_text, created_body, error_body, phrase_of, start_body, status_of, value_body,
 };
@@ -138,19 +139,27 @@ fn errors_are_written(rt: HostRuntime) -> Result<(), Fail> {
     Ok(())
 }
 
-// A number keeps its text, and lists keep theirs.
+// A number keeps its text, and lists keep theirs. How long the request waits is for the hub alone.
 #[test]
 fn starts_are_written(rt: HostRuntime) -> Result<(), Fail> {
     let alloc = rt.alloc();
-    let mut caps = caps_of(alloc, &[("browserName", "chrome")])
-        .ok()
-        .ok_or("no memory")?;
+    let mut caps = caps_of(
+        alloc,
+        &[("grid:queueTimeout", "x"), ("browserName", "chrome")],
+    )
+    .ok()
+    .ok_or("no memory")?;
     let options =
         "{\"args\":[\"--headless=new\"],\"mobileEmulation\":{\"deviceMetrics\":{\"pixelRatio\":3.0}}}";
     let name = Text::of(alloc, "goog:chromeOptions")
         .ok()
         .ok_or("no memory")?;
     let value = CapValue::Raw(Text::of(alloc, options).ok().ok_or("no memory")?);
+    caps.push(Cap { name, value }).ok().ok_or("no memory")?;
+    let name = Text::of(alloc, "grid:queueTimeout")
+        .ok()
+        .ok_or("no memory")?;
+    let value = CapValue::Raw(Text::of(alloc, "2000").ok().ok_or("no memory")?);
     caps.push(Cap { name, value }).ok().ok_or("no memory")?;
     let body = start_body(alloc, &caps).ok().ok_or("no memory")?;
     assert_eq!(rt;

@@ -1,9 +1,12 @@
 //! What is to come of a bind and of a failed start.
 use crate::foretold::Foretold;
 use crate::scene::Scene;
-use grid_types::{Caps, Change, FailWhy, ReqNo, SessionId, SlotId};
+use grid_types::{Caps, Change, FailWhy, NodeNo, ReqNo, SessionId, SlotId};
 use hub_trial::{Answer, Closed, Fault};
-use hub_twin::{is_last, is_live_session, is_registered, is_settled, meets_wanted};
+use hub_twin::{
+    bound_count, is_base_up, is_last, is_registered, is_settled, live, meets_wanted,
+    registration_of,
+};
 use std::alloc::Global;
 
 /// Why a session is not kept, if it is not: the first of four causes.
@@ -18,7 +21,7 @@ fn refusal(
         Some(FailWhy::Late)
     } else if !is_registered(scene.journal, slot.node) {
         Some(FailWhy::NodeGone)
-    } else if is_live_session(scene.journal, session) {
+    } else if live(scene.journal, session).is_some() {
         Some(FailWhy::Duplicate)
     } else if !meets_wanted(scene.journal, request, slot, caps) {
         Some(FailWhy::Mismatch)
@@ -64,6 +67,18 @@ fn not_kept(
     Foretold::makes(alloc, change, answer)
 }
 
+/// The node was not drained, and one more session is as many as it drains after.
+fn is_last_session(scene: &Scene<'_>, node: NodeNo) -> bool {
+    let Some(registration) = registration_of(scene.journal, node) else {
+        return false;
+    };
+    let Some(limit) = registration.drain_after else {
+        return false;
+    };
+    let bound = bound_count(scene.journal, node) as u64;
+    is_base_up(scene.journal, node) && bound.saturating_add(1) == u64::from(limit)
+}
+
 pub(crate) fn bind(
     alloc: Global,
     scene: &Scene<'_>,
@@ -84,7 +99,15 @@ pub(crate) fn bind(
         caps,
         at: scene.at,
     };
-    Foretold::makes(alloc, change, Answer::Bound(request))
+    let mut foretold = Foretold::makes(alloc, change, Answer::Bound(request))?;
+    if is_last_session(scene, slot.node) {
+        let at = scene.at;
+        foretold.add(Change::Draining {
+            node: slot.node,
+            at,
+        })?;
+    }
+    Ok(foretold)
 }
 
 pub(crate) fn fail(

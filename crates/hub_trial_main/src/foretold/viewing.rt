@@ -3,8 +3,8 @@ use crate::scene::Scene;
 use grid_types::{NodeNo, NodeView, NodeViews, SlotId, SlotViews, View, WaitViews};
 use hub_trial::{Answer, Fault};
 use hub_twin::{
-    has_ready_node, listed_count, listed_node, registration_of, slot_count, slot_state,
-    standing_of, wait_view, waiting_count, waiting_request,
+    has_ready_node, listed_node, registration_of, slot_count, slot_state,
+    standing_of, wait_view, waiting_request,
 };
 use std::alloc::Global;
 
@@ -39,11 +39,12 @@ fn node_of(alloc: Global, scene: &Scene<'_>, node: NodeNo) -> Result<NodeView, F
 
 fn nodes_of(alloc: Global, scene: &Scene<'_>) -> Result<NodeViews, Fault> {
     let mut nodes = NodeViews::new(alloc);
-    for place in 0..listed_count(scene.journal) {
-        if let Some(node) = listed_node(scene.journal, place) {
-            if nodes.push(node_of(alloc, scene, node)?).is_err() {
-                return Err(Fault::Memory);
-            }
+    for place in 0..scene.journal.len() {
+        let Some(node) = listed_node(scene.journal, place) else {
+            break;
+        };
+        if nodes.push(node_of(alloc, scene, node)?).is_err() {
+            return Err(Fault::Memory);
         }
     }
     Ok(nodes)
@@ -51,11 +52,12 @@ fn nodes_of(alloc: Global, scene: &Scene<'_>) -> Result<NodeViews, Fault> {
 
 fn waiting_of(alloc: Global, scene: &Scene<'_>) -> Result<WaitViews, Fault> {
     let mut waiting = WaitViews::new(alloc);
-    for place in 0..waiting_count(scene.journal) {
-        if let Some(request) = waiting_request(scene.journal, place) {
-            if waiting.push(wait_view(scene.journal, request)).is_err() {
-                return Err(Fault::Memory);
-            }
+    for place in 0..scene.journal.len() {
+        let Some(request) = waiting_request(scene.journal, place) else {
+            break;
+        };
+        if waiting.push(wait_view(scene.journal, request)).is_err() {
+            return Err(Fault::Memory);
         }
     }
     Ok(waiting)

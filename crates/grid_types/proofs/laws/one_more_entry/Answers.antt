@@ -1,8 +1,14 @@
-use Rattle.grid_types.proofs.MoveLemmas.{standing-moves, beat-moves, turn-moves, holder-moves, owner-moves, load-moves, place-moves, bar-moves, live-moves, active-moves, published-moves, queue-moves}
+use Rattle.grid_types.proofs.MoveLemmas.{base-moves, suspicion-moves, count-moves, held-moves, beat-moves, turn-moves, holder-moves, owner-moves, load-moves, place-moves, bar-moves, live-moves, active-moves, published-moves, queue-moves}
 use Rattle.grid_types.proofs.laws.one_more_entry.Goals as goal
 
-pub returns-clause-standing : goal.returns-clause-standing
-returns-clause-standing c = standing-moves
+pub returns-clause-base : goal.returns-clause-base
+returns-clause-base c = base-moves
+
+pub returns-clause-suspicion : goal.returns-clause-suspicion
+returns-clause-suspicion c = suspicion-moves
+
+pub returns-clause-count : goal.returns-clause-count
+returns-clause-count c = count-moves
 
 pub returns-clause-beat : goal.returns-clause-beat
 returns-clause-beat c = beat-moves
@@ -18,6 +24,9 @@ returns-clause-owner c = owner-moves
 
 pub returns-clause-load : goal.returns-clause-load
 returns-clause-load c = load-moves
+
+pub returns-clause-held : goal.returns-clause-held
+returns-clause-held c = held-moves
 
 pub returns-clause-place : goal.returns-clause-place
 returns-clause-place c = place-moves

@@ -147,6 +147,7 @@ returns-clause-sweep c = record {
   makes = refl;
   counts = refl;
   two_lapses = refl;
+  two_suspicions = refl;
 }
 
 pub returns-clause-equal_ids : goal.returns-clause-equal_ids
@@ -264,4 +265,61 @@ returns-clause-refusals c = record {
   not_another_callers = refl;
   its_callers = refl;
   not_before_the_clock = refl;
+}
+
+pub returns-clause-suspect : goal.returns-clause-suspect
+unfolding hub chosen fits matches is_last meets serves request_bytes written_caps permitted view_of
+returns-clause-suspect c = record {
+  before_it = refl;
+  at_it = refl;
+  once = refl;
+  not_permitted_before = refl;
+  not_permitted_twice = refl;
+  session_stays = refl;
+  deadline = refl;
+  takes_none = refl;
+  not_ready = refl;
+  comes_back = refl;
+  silent_again = refl;
+  lapses = refl;
+  session_gone = refl;
+  node_gone = refl;
+  name_freed = refl;
+  may_come_back = refl;
+  drains = refl;
+  shown_suspect = refl;
+  shown_draining = refl;
+  is_legal = refl;
+  drain_is_legal = refl;
+}
+
+pub returns-clause-count : goal.returns-clause-count
+unfolding hub chosen fits matches is_last meets serves request_bytes written_caps permitted view_of
+returns-clause-count c = record {
+  first_gets_it = refl;
+  held_one_counts = refl;
+  is_bound = refl;
+  drains = refl;
+  bound_one_counts = refl;
+  removed = refl;
+  next_after_failure = refl;
+  next_after_orphan = refl;
+  drained_before = refl;
+  is_legal = refl;
+}
+
+pub returns-clause-queue_time : goal.returns-clause-queue_time
+unfolding hub chosen fits matches is_last meets serves request_bytes written_caps permitted view_of
+returns-clause-queue_time c = record {
+  asked = refl;
+  least = refl;
+  below_least = refl;
+  most = refl;
+  above_most = refl;
+  no_text = refl;
+  no_fraction = refl;
+  behind_others = refl;
+  first_list = refl;
+  first_that_asks = refl;
+  deadline = refl;
 }

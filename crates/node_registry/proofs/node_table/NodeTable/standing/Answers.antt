@@ -1,9 +1,10 @@
-use Rattle.std.proofs.Common.{◌∙◌}
-use Rattle.node_registry.proofs.Queries.{standing-found}
+use Rattle.std.proofs.Common.{◌∙◌, ap}
+use Rattle.std.specs.Prelude.{Some}
+use Rattle.node_registry.proofs.Queries.{row-tells, row-standing, listed-there}
 use Rattle.node_registry.proofs.node_table.NodeTable.standing.Goals as goal
 
 pub returns-in_err-get : goal.returns-in_err-get
-returns-in_err-get c = record { of = λ c' H s l on. c.from_residual.ensures ∙ standing-found c' H c.args.self.now c.args.node _ s l on c.in_err-get.ensures.value }
+returns-in_err-get c = record { of = λ c' H s l on. listed-there c' H c.args.self.now c.args.node s l c.in_err-get.ensures.value on }
 
 pub returns : goal.returns
-returns c = record { of = λ c' H s l on. standing-found c' H c.args.self.now c.args.node _ s l on c.in_ok-get.ensures.value }
+returns c = record { of = λ c' H s l on. ap Some c.standing.ensures ∙ row-standing H c.args.node _ (row-tells c' H c.args.self.now c.args.node _ s l c.in_ok-get.ensures.value) }

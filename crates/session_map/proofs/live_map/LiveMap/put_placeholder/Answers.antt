@@ -1,4 +1,4 @@
-use Rattle.std.proofs.Common.{◌≡◌, ℕ, false, List, refl, sym, ap, ◌∙◌}
+use Rattle.std.proofs.Common.{◌≡◌, false, refl, sym, ◌∙◌}
 use Rattle.std.specs.Prelude.{Some, Result, Ok, Err, OnOk, is_err, is_some}
 use Rattle.std.specs.BTreeMap as tree
 use Rattle.session_map.specs.Names.{session_cmp}

@@ -1,0 +1,13 @@
+-- What a door in memory tells.
+use Rattle.std.specs.Prelude.{◌≡◌, List, [], ◌∷◌, Option, None, Some}
+use Rattle.grid_outside.specs.declared.mem_link.MemLink.{MemLink}
+use Rattle.grid_outside.specs.declared.mem_door.MemDoor.{MemDoor}
+
+-- the links that it has yet to hand out, in order
+abbrev pub to_hand_out : MemDoor → List MemLink
+to_hand_out d = d.links.items
+
+-- the first of the links is handed out; None is answered where there is none
+abbrev pub HandsOut : List MemLink → List MemLink → Option MemLink → Type 0
+HandsOut old new None = (old ≡ []) × (new ≡ [])
+HandsOut old new (Some link) = old ≡ link ∷ new

@@ -1,0 +1,105 @@
+// A door in memory.
+ghost use Rattle.std.specs.Prelude.{◌≡◌, ℕ, ◌≤◌, List, [], ◌∷◌, ◌++◌, None, Option, Result, IfOk, OnOk, OnErr, IfErr};
+ghost use Rattle.grid_outside.specs.Counts.{Rose, HasCause};
+
+use crate::door::Door;
+use crate::mem_link::MemLink;
+use crate::mem_nodes::MemNodes;
+use crate::memory::{Failing, MemClock};
+use crate::source::Failed;
+use grid_types::Moment;
+use std::alloc::Global;
+
+/// Hands out its links in order, and is closed once none is left. Its nodes have no reply to give,
+/// and each of its clocks begins at the moment that it was made with.
+#[derive(Drop)]
+pub struct MemDoor {
+    alloc: Global,
+    links: Vec<MemLink>,
+    at: Moment,
+    failing: Failing,
+    ends: u64,
+}
+
+impl MemDoor {
+    ghost use Rattle.grid_outside.specs.MemDoors.{to_hand_out};
+
+    /// A door without links. `fails` has the numbers of the binds and accepts, from 0, that are to
+    /// fail.
+    pub fn new(alloc: Global, at: Moment, fails: Vec<u64>) -> MemDoor
+        ensures { to_hand_out result ≡ [] }
+    {
+        MemDoor {
+            alloc,
+            links: Vec::new(alloc),
+            at,
+            failing: Failing::new(fails),
+            ends: 0,
+        }
+    }
+
+    /// Puts a link last of those to hand out. Err is want of memory, and hands it back.
+    pub fn push(&mut self, link: MemLink) -> Result<(), MemLink>
+        ensures ok { OnOk result (to_hand_out self.new ≡ to_hand_out self.old ++ link ∷ []) }
+        ensures err { OnErr result (to_hand_out self.new ≡ to_hand_out self.old) }
+        ensures back { IfErr result (λ l. l ≡ link) }
+    {
+        match self.links.push(link) {
+            Ok(()) => Ok(()),
+            Err(refused) => Err(refused.value),
+        }
+    }
+}
+
+impl Door for MemDoor {
+    ghost use Rattle.grid_outside.specs.MemDoors.{to_hand_out, HandsOut};
+
+    type L = MemLink;
+
+    type N = MemNodes;
+
+    type C = MemClock;
+
+    ghost faults = { λ d. d.failing.faults };
+
+    ghost ends = { λ d. d.ends };
+
+    fn bind(&mut self, port: u16) -> Result<(), Failed>
+        ensures cause { HasCause self.old.failing.faults self.new.failing.faults result }
+        ensures ends { self.old.ends ≤ self.new.ends }
+        ensures links { to_hand_out self.new ≡ to_hand_out self.old }
+    {
+        let _ = port;
+        if self.failing.next_fails() {
+            self.failing.count_fault();
+            return Err(Failed);
+        }
+        Ok(())
+    }
+
+    fn accept(&mut self) -> Result<Option<MemLink>, Failed>
+        ensures cause { HasCause self.old.failing.faults self.new.failing.faults result }
+        ensures closed { IfOk result (λ link. link ≡ None → Rose self.old.ends self.new.ends) }
+        ensures ends { self.old.ends ≤ self.new.ends }
+        ensures next { IfOk result (HandsOut (to_hand_out self.old) (to_hand_out self.new)) }
+        ensures failed { OnErr result (to_hand_out self.new ≡ to_hand_out self.old) }
+    {
+        if self.failing.next_fails() {
+            self.failing.count_fault();
+            return Err(Failed);
+        }
+        if self.links.is_empty() {
+            self.ends = self.ends.saturating_add(1);
+            return Ok(None);
+        }
+        Ok(Some(self.links.remove(0)))
+    }
+
+    fn nodes(&mut self) -> MemNodes {
+        MemNodes::new(self.alloc, Vec::new(self.alloc))
+    }
+
+    fn clock(&mut self) -> MemClock {
+        MemClock::new(self.at)
+    }
+}

@@ -1,0 +1,150 @@
+// A door over TCP.
+ghost use Rattle.std.specs.Prelude.{◌≡◌, ℕ, ◌≤◌, None, IfOk};
+ghost use Rattle.grid_outside.specs.Counts.{Rose, HasCause};
+ghost use Rattle.grid_sockets.specs.Limits.{IsCounted};
+
+use crate::connections::TcpNodes;
+use crate::links::{TcpLink, client_link};
+use crate::machine::MachineClock;
+use grid_outside::{Door, Failed};
+use std::io::ErrorKind;
+use std::net::{Ipv4Addr, Net, OpenListener, TcpListener, TcpStream};
+use std::time::Duration;
+use std::{io, time};
+
+/// How long the door waits, in milliseconds, where the system can't take a connection for a while.
+const PAUSE_MS: u64 = 15;
+
+/// Linux's number of the error that a descriptor is not open, or is none of the listener's kind.
+const BAD_DESCRIPTOR: i32 = 9;
+
+const NOT_A_SOCKET: i32 = 88;
+
+/// A listener at all addresses of the machine that closes after so many accepted links, or never.
+#[derive(Drop)]
+pub struct TcpDoor<R: Net<Listener = TcpListener, Stream = TcpStream> + Drop> {
+    runtime: R,
+    left: Option<u64>,
+    listener: Option<TcpListener>,
+    faults: u64,
+    ends: u64,
+}
+
+impl<R: Net<Listener = TcpListener, Stream = TcpStream> + Drop> TcpDoor<R> {
+    pub fn new(runtime: R, limit: Option<u64>) -> Self
+        ensures limit { result.left ≡ limit }
+        ensures faults { result.faults ≡ 0 }
+        ensures ends { result.ends ≡ 0 }
+    {
+        TcpDoor {
+            runtime,
+            left: limit,
+            listener: None,
+            faults: 0,
+            ends: 0,
+        }
+    }
+}
+
+/// What an error of accepting concerns.
+#[derive(Clone, Copy)]
+enum Concern {
+    /// One client, whose connection ended before it was taken.
+    Client,
+    /// The listener, which takes none any more.
+    Listener,
+    /// The system, which lacks descriptors or memory now.
+    System,
+}
+
+fn concern_of(error: &io::Error) -> Concern {
+    match error.kind() {
+        ErrorKind::ConnectionAborted
+        | ErrorKind::ConnectionReset
+        | ErrorKind::TimedOut
+        | ErrorKind::HostUnreachable
+        | ErrorKind::NetworkUnreachable => Concern::Client,
+        ErrorKind::InvalidInput | ErrorKind::Unsupported => Concern::Listener,
+        _ => match error.raw_os_error() {
+            Some(BAD_DESCRIPTOR | NOT_A_SOCKET) => Concern::Listener,
+            _ => Concern::System,
+        },
+    }
+}
+
+/// The next connection. It goes on after what concerns one client, and after a pause where the system
+/// can't take one for a while, so no client ends it.
+fn next_stream<R: time::Clock>(runtime: &R, listener: &TcpListener) -> Option<TcpStream> {
+    for _ in 0..u64::MAX {
+        match listener.accept() {
+            Ok((stream, _)) => return Some(stream),
+            Err(error) => match concern_of(&error) {
+                Concern::Client => {}
+                Concern::System => runtime.sleep(Duration::from_millis(PAUSE_MS)),
+                Concern::Listener => return None,
+            },
+        }
+    }
+    None
+}
+
+impl<R: Net<Listener = TcpListener, Stream = TcpStream> + time::Clock + Copy + Send + Drop> Door
+    for TcpDoor<R> {
+    type L = TcpLink<TcpStream>;
+
+    type N = TcpNodes<R>;
+
+    type C = MachineClock<R>;
+
+    ghost faults = { λ d. d.faults };
+
+    ghost ends = { λ d. d.ends };
+
+    fn bind(&mut self, port: u16) -> Result<(), Failed> {
+        match TcpListener::bind(&self.runtime, (Ipv4Addr::UNSPECIFIED, port)) {
+            Ok(listener) => {
+                self.listener = Some(listener);
+                Ok(())
+            }
+            Err(_) => {
+                self.faults = self.faults.saturating_add(1);
+                Err(Failed)
+            }
+        }
+    }
+
+    fn accept(&mut self) -> Result<Option<TcpLink<TcpStream>>, Failed>
+        ensures cause { HasCause self.old.faults self.new.faults result }
+        ensures closed { IfOk result (λ link. link ≡ None → Rose self.old.ends self.new.ends) }
+        ensures ends { self.old.ends ≤ self.new.ends }
+        // It closes exactly after its limit.
+        ensures limit { IfOk result (IsCounted self.old.left self.new.left) }
+    {
+        if self.left == Some(0) {
+            self.ends = self.ends.saturating_add(1);
+            return Ok(None);
+        }
+        let taken = match &self.listener {
+            Some(listener) => next_stream(&self.runtime, listener),
+            None => None,
+        };
+        match taken {
+            Some(stream) => {
+                self.left = self.left.map(|left| left.saturating_sub(1));
+                Ok(Some(client_link(stream)))
+            }
+            None => {
+                self.faults = self.faults.saturating_add(1);
+                Err(Failed)
+            }
+        }
+    }
+
+    fn nodes(&mut self) -> TcpNodes<R> {
+        TcpNodes::new(self.runtime)
+    }
+
+    fn clock(&mut self) -> MachineClock<R> {
+        MachineClock::new(self.runtime)
+    }
+}

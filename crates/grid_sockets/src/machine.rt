@@ -1,0 +1,55 @@
+// The clock of the machine.
+ghost use Rattle.std.specs.Prelude.{◌≡◌, ℕ, ◌-◌, ◌^◌, ◌<◌, ◌≤◌, min, None};
+ghost use Rattle.grid_outside.specs.Told.{later_by};
+
+use grid_outside::Clock;
+use grid_types::Moment;
+use std::time;
+use std::time::Duration;
+
+/// The machine's clock, in milliseconds since its start, so all such clocks of one machine agree. It
+/// tells no pauses.
+#[derive(Drop)]
+pub struct MachineClock<R: time::Clock + Drop> {
+    runtime: R,
+    last: u64,
+    ghost bound: { last < 2 ^ 62 },
+}
+
+const LATEST: u64 = (1 << 62) - 1;
+
+impl<R: time::Clock + Drop> MachineClock<R> {
+    pub fn new(runtime: R) -> Self {
+        MachineClock { runtime, last: 0 }
+    }
+
+    /// What the machine's clock shows, or 0 where it can't be read.
+    fn shown(&self) -> u64
+        ensures { result < 2 ^ 62 }
+    {
+        match self.runtime.monotonic() {
+            Ok(since) => u64::try_from(since.as_millis())
+                .unwrap_or(LATEST)
+                .min(LATEST),
+            Err(_) => 0,
+        }
+    }
+}
+
+impl<R: time::Clock + Drop> Clock for MachineClock<R> {
+    ghost moment = { λ c. c.last };
+
+    ghost pauses = { λ c. None };
+
+    fn now(&mut self) -> Moment {
+        self.last = self.shown().max(self.last);
+        Moment(self.last)
+    }
+
+    fn pause(&mut self, ms: u64) -> Moment {
+        let least = self.last.saturating_add(ms).min(LATEST);
+        self.runtime.sleep(Duration::from_millis(ms));
+        self.last = self.shown().max(least);
+        Moment(self.last)
+    }
+}

@@ -1,0 +1,11 @@
+mod Texts
+mod SessionLemmas
+mod SeekLemmas
+mod ListLemmas
+mod PathLemmas
+mod NodeLemmas
+mod ReadingLemmas
+mod ReplyLemmas
+mod SizeLemmas
+mod WritingLemmas
+mod TurnLemmas

@@ -1,0 +1,9 @@
+pub mod Paths
+pub mod Sessions
+pub mod Reading
+pub mod Replies
+pub mod Sizes
+pub mod Links
+pub mod LinkedNodes
+pub mod Serving
+pub mod Connections

@@ -1,0 +1,119 @@
+//! Serving the node over one connection.
+ghost use Rattle.std.specs.Prelude.{◌≡◌, ℕ, ◌<◌, ◌≤◌, true, false, List, length, IfOk, IfErr, OnOk};
+ghost use Rattle.loop_node.specs.Sessions.{Node};
+ghost use Rattle.loop_node.specs.Connections.{LinkTold, told_by, Later, Blames, ServedOver, ServingOver, AfterTurn, IsRead, work};
+
+use crate::incoming::Incoming;
+use crate::node::LoopNode;
+use crate::writing::{refuse, respond, tell};
+use grid_outside::Link;
+use grid_types::NoMemory;
+use http_frames::{LIMITS, Step, next_request, stays};
+use std::alloc::Global;
+
+/// Why a connection was not served to its end.
+#[derive(Clone, Copy, Debug, PartialEq, Eq)]
+pub enum NodeFault {
+    Read,
+    Write,
+    Memory,
+}
+
+/// The most bytes of one read.
+const PIECE: usize = 16_384;
+
+/// Answers the requests of one connection in order, and a request that is refused with a 400, and
+/// answers how many there were. It ends behind a request that closes the connection or is refused,
+/// at the end of input, or after 2^40 bytes.
+pub fn serve_node<L: Link>(
+    alloc: Global,
+    node: &mut LoopNode,
+    link: &mut L,
+) -> Result<u64, NodeFault>
+    ensures ok { IfOk result (ServedOver node.old node.new
+        (told_by L.given L.taken L.ends L.read_faults L.write_faults link.old)
+        (told_by L.given L.taken L.ends L.read_faults L.write_faults link.new)) }
+    ensures later { Later
+        (told_by L.given L.taken L.ends L.read_faults L.write_faults link.old)
+        (told_by L.given L.taken L.ends L.read_faults L.write_faults link.new) }
+    // Each fault has its count; want of memory is free.
+    ensures err { IfErr result (λ why. Blames why
+        (told_by L.given L.taken L.ends L.read_faults L.write_faults link.old)
+        (told_by L.given L.taken L.ends L.read_faults L.write_faults link.new)) }
+{
+    let mut incoming = Incoming::new(alloc);
+    'turns: loop {
+        let goes = turn(alloc, node, link, &mut incoming)?;
+        if !goes {
+            return Ok(incoming.frames);
+        }
+    }
+}
+
+/// Answers one request, or reads once, and says whether the connection goes on.
+fn turn<L: Link>(
+    alloc: Global,
+    node: &mut LoopNode,
+    link: &mut L,
+    incoming: &mut Incoming,
+) -> Result<bool, NodeFault>
+    ensures ok { IfOk result (λ goes. (first : Node) (start : LinkTold)
+        → ServingOver first node.old start
+        (told_by L.given L.taken L.ends L.read_faults L.write_faults link.old) incoming.old
+        → AfterTurn goes first node.new start
+        (told_by L.given L.taken L.ends L.read_faults L.write_faults link.new) incoming.new) }
+    ensures less { IfOk result (λ goes. goes ≡ true → work incoming.new < work incoming.old) }
+    ensures later { Later
+        (told_by L.given L.taken L.ends L.read_faults L.write_faults link.old)
+        (told_by L.given L.taken L.ends L.read_faults L.write_faults link.new) }
+    ensures err { IfErr result (λ why. Blames why
+        (told_by L.given L.taken L.ends L.read_faults L.write_faults link.old)
+        (told_by L.given L.taken L.ends L.read_faults L.write_faults link.new)) }
+{
+    if incoming.bytes.is_empty() {
+        return read_more(link, incoming);
+    }
+    tell(link, incoming)?;
+    // What is whole stays whole, whatever bytes follow.
+    stays();
+    match next_request(incoming.bytes.as_slice(), LIMITS) {
+        Step::Whole(frame, len) => {
+            let closes = frame.closes;
+            respond(alloc, node, link, &frame)?;
+            incoming.next(len);
+            Ok(!closes)
+        }
+        Step::Refused(why) => {
+            refuse(alloc, link, why)?;
+            Ok(false)
+        }
+        Step::More { .. } => read_more(link, incoming),
+    }
+}
+
+/// Reads a piece, and says whether there was one: none after the most bytes and at the end of input.
+fn read_more<L: Link>(link: &mut L, incoming: &mut Incoming) -> Result<bool, NodeFault>
+    ensures ok { IfOk result (λ goes. IsRead goes incoming.old incoming.new
+        (told_by L.given L.taken L.ends L.read_faults L.write_faults link.old)
+        (told_by L.given L.taken L.ends L.read_faults L.write_faults link.new)) }
+    ensures later { Later
+        (told_by L.given L.taken L.ends L.read_faults L.write_faults link.old)
+        (told_by L.given L.taken L.ends L.read_faults L.write_faults link.new) }
+    ensures err { IfErr result (λ why. Blames why
+        (told_by L.given L.taken L.ends L.read_faults L.write_faults link.old)
+        (told_by L.given L.taken L.ends L.read_faults L.write_faults link.new)) }
+{
+    let mut piece = [0; PIECE];
+    let room = incoming.left.min(PIECE as u64) as usize;
+    if room == 0 {
+        return Ok(false);
+    }
+    match link.read(&mut piece[..room]) {
+        Ok(0) => Ok(false),
+        Ok(count) => match incoming.add(&piece[..count]) {
+            Ok(()) => Ok(true),
+            Err(NoMemory) => Err(NodeFault::Memory),
+        },
+        Err(_) => Err(NodeFault::Read),
+    }
+}

@@ -1,0 +1,5 @@
+mod MoveLemmas
+mod StandLemmas
+mod HandLemmas
+mod ReplyLemmas
+mod MemberLemmas

@@ -1,0 +1,13 @@
+pub mod Steps
+pub mod Replies
+pub mod Reading
+pub mod Asks
+pub mod Paths
+pub mod Start
+pub mod Held
+pub mod Spending
+pub mod Runs
+pub mod RunLaws
+pub mod Places
+pub mod Carrying
+pub mod StandLaws

@@ -1,0 +1,14 @@
+use Rattle.std.proofs.Common.{◌∙◌}
+use Rattle.grid_types.specs.Nodes.{bound_count}
+use Rattle.node_registry.proofs.Queries.{row-tells, row-spent, listed-there}
+use Rattle.node_registry.proofs.node_table.NodeTable.is_spent.Goals as goal
+
+pub returns-in-Some : goal.returns-in-Some
+returns-in-Some c = record {
+  of = λ c' H s l on.
+      let tells = row-tells c' H c.args.self.now c.args.node c.in-Some.row.now s l c.in-Some.ensures.value in
+      c.is_spent.ensures (bound_count H c.args.node) tells.bound ∙ row-spent H c.args.node c.in-Some.row.now tells;
+}
+
+pub returns-in-None : goal.returns-in-None
+returns-in-None c = record { of = λ c' H s l on. listed-there c' H c.args.self.now c.args.node s l c.in-None.ensures.value on }

@@ -1,0 +1,3 @@
+pub mod Accepted
+pub mod Building
+pub mod Limits

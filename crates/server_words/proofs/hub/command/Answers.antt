@@ -1,0 +1,13 @@
+use Rattle.server_words.proofs.Building.{started, with_option}
+use Rattle.server_words.proofs.hub.command.Goals as goal
+
+pub returns : goal.returns
+returns c =
+    let bare = started _ c.new.result c.no_binary_name-bare.result c.new.ensures.app c.no_binary_name-bare.ensures in
+    let one = with_option _ _ c.no_binary_name-bare.result c.in_ok-one.one c.number_option.result bare c.in_ok-one.ensures c.number_option.ensures.local c.number_option.ensures.rule in
+    let two = with_option _ _ c.in_ok-one.one c.in_ok-two.two c.number_option-2.result one c.in_ok-two.ensures c.number_option-2.ensures.local c.number_option-2.ensures.rule in
+    let three = with_option _ _ c.in_ok-two.two c.in_ok-three.three c.number_option-3.result two c.in_ok-three.ensures c.number_option-3.ensures.local c.number_option-3.ensures.rule in
+    let four = with_option _ _ c.in_ok-three.three c.in_ok-four.four c.truth_option.result three c.in_ok-four.ensures c.truth_option.ensures.local c.truth_option.ensures.rule in
+    let five = with_option _ _ c.in_ok-four.four c.in_ok-five.five c.number_option-4.result four c.in_ok-five.ensures c.number_option-4.ensures.local c.number_option-4.ensures.rule in
+    let six = with_option _ _ c.in_ok-five.five c.in_ok-six.six c.number_option-5.result five c.in_ok-six.ensures c.number_option-5.ensures.local c.number_option-5.ensures.rule in
+    with_option _ _ c.in_ok-six.six c.in_ok-seven.seven c.number_option-6.result six c.in_ok-seven.ensures c.number_option-6.ensures.local c.number_option-6.ensures.rule

@@ -1,0 +1,15 @@
+use Rattle.std.proofs.Common.{arith}
+use Rattle.clap.specs.Words.{found_of, rows_of}
+use Rattle.server_words.proofs.Limits.{wider, node_port_fits, slots_fit}
+use Rattle.server_words.proofs.node.told.Goals as goal
+
+pub number-requires : goal.number-requires
+number-requires c = record { small = wider _ 1 65_535 (omega arith) (node_port_fits (rows_of (found_of c.args.matches.now)) c.requires) }
+
+pub overflow_cast-result : goal.overflow_cast-result
+overflow_cast-result c =
+    let port = c.number.ensures.within 1 65_535 (node_port_fits (rows_of (found_of c.args.matches.now)) c.requires) (omega arith) (omega arith) in
+    omega (arith, port)
+
+pub number-requires-2 : goal.number-requires-2
+number-requires-2 c = record { small = wider _ 1 64 (omega arith) (slots_fit (rows_of (found_of c.args.matches.now)) c.requires) }

@@ -1,0 +1,40 @@
+-- The options of the hub's program.
+use Rattle.std.specs.Prelude.{◌*◌, List, codes, false}
+use Rattle.clap.specs.Words.{App, Row, Text, first_of, matches_of, with_rule}
+use Rattle.grid_types.specs.Config.{default_config}
+use Rattle.grid_types.specs.declared.config.HubConfig.{HubConfig}
+use Rattle.server_words.specs.Options.{bare, number_of, number_or, truth_of, truth_or}
+use Rattle.server_words.specs.declared.hub.HubWords.{HubWords}
+
+abbrev pub hub_command : App
+hub_command =
+    with_rule (with_rule (with_rule (with_rule (with_rule (with_rule (with_rule
+    (bare (codes "grid_hub"))
+    (number_of (codes "port") 1 65_535))
+    (number_of (codes "session-request-timeout") 1 86_400))
+    (number_of (codes "session-timeout") 10 86_400))
+    (truth_of (codes "reject-unsupported-caps")))
+    (number_of (codes "queue-limit") 1 10_000))
+    (number_of (codes "handlers") 1 128))
+    (number_of (codes "workers") 0 64)
+
+-- the configuration that the words found tell; what they leave out is as by default
+abbrev pub config_told : List Row → HubConfig
+config_told rows = record default_config {
+  timeout_ms = number_or 300 (first_of (codes "session-request-timeout") rows) * 1_000;
+  idle_ms = number_or 300 (first_of (codes "session-timeout") rows) * 1_000;
+  queue_requests = number_or 10_000 (first_of (codes "queue-limit") rows);
+  reject_unsupported = truth_or false (first_of (codes "reject-unsupported-caps") rows);
+}
+
+abbrev pub hub_told : List Row → HubWords
+hub_told rows = record {
+  port = number_or 4_444 (first_of (codes "port") rows);
+  config = config_told rows;
+  handlers = number_or 64 (first_of (codes "handlers") rows);
+  workers = number_or 4 (first_of (codes "workers") rows);
+}
+
+-- what the words of the hub's program say
+abbrev pub hub_said : List Text → HubWords
+hub_said words = hub_told (matches_of hub_command words)

@@ -1,0 +1,3 @@
+pub mod HubOptions
+pub mod NodeOptions
+pub mod Options

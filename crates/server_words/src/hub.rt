@@ -1,0 +1,92 @@
+// The words of the hub's program.
+ghost use Rattle.std.specs.Prelude.{◌≡◌, IfOk, IsErrOf};
+ghost use Rattle.grid_types.specs.Config.{IsValid};
+ghost use Rattle.clap.specs.Words.{app_of, found_of, rows_of};
+ghost use Rattle.server_words.specs.HubOptions.{hub_command, hub_said, hub_told};
+ghost use Rattle.server_words.specs.Options.{IsTaken, NumbersFit};
+ghost use Rattle.server_words.specs.declared.options.WordsFault.TheVariants as fault;
+
+use crate::options::{WordsFault, found, number, number_option, texts, truth, truth_option};
+use clap::{ArgMatches, Command};
+use grid_types::{HubConfig, Text};
+use std::alloc::{AllocError, Global};
+
+/// How `grid_hub` is called.
+pub const HUB_USAGE: &str = "\
+usage: grid_hub [OPTION VALUE]...
+  --port PORT                             TCP port, 1 to 65535 (4444)
+  --session-request-timeout SECONDS       wait of a new session, 1 to 86400 (300)
+  --session-timeout SECONDS               an idle session ends, 10 to 86400 (300)
+  --reject-unsupported-caps true|false    refuse what no node has (false)
+  --queue-limit COUNT                     requests that may wait, 1 to 10000 (10000)
+  --handlers COUNT                        connections at once, 1 to 128 (64)
+  --workers COUNT                         starts of sessions at once, 0 to 64 (4)
+";
+
+/// What the words of the hub's program say.
+#[derive(Clone, Copy, Debug)]
+pub struct HubWords {
+    /// The TCP port to listen at.
+    pub port: u16,
+    /// What the hub is set up with.
+    pub config: HubConfig,
+    /// How many connections are served beside each other.
+    pub handlers: u32,
+    /// How many threads start sessions beside the connections.
+    pub workers: u32,
+}
+
+fn command<'a>(alloc: Global) -> Result<Command<'a>, AllocError>
+    ensures { IfOk result (λ c. app_of c ≡ hub_command) }
+{
+    let bare = Command::new(alloc, "grid_hub").no_binary_name(true);
+    let one = bare.arg(number_option(alloc, "port", 1, 65_535))?;
+    let two = one.arg(number_option(alloc, "session-request-timeout", 1, 86_400))?;
+    let three = two.arg(number_option(alloc, "session-timeout", 10, 86_400))?;
+    let four = three.arg(truth_option(alloc, "reject-unsupported-caps"))?;
+    let five = four.arg(number_option(alloc, "queue-limit", 1, 10_000))?;
+    let six = five.arg(number_option(alloc, "handlers", 1, 128))?;
+    let seven = six.arg(number_option(alloc, "workers", 0, 64))?;
+    Ok(seven)
+}
+
+fn config(matches: &ArgMatches<'_>) -> HubConfig
+    requires { NumbersFit hub_command (rows_of (found_of matches.now)) }
+    ensures told { result ≡ (hub_told (rows_of (found_of matches.now))).config }
+    ensures valid { IsValid result }
+{
+    HubConfig {
+        timeout_ms: u64::from(number(matches, "session-request-timeout", 300)) * 1_000,
+        idle_ms: u64::from(number(matches, "session-timeout", 300)) * 1_000,
+        queue_requests: number(matches, "queue-limit", 10_000),
+        reject_unsupported: truth(matches, "reject-unsupported-caps", false),
+        ..HubConfig::default()
+    }
+}
+
+fn told(matches: &ArgMatches<'_>) -> HubWords
+    requires { NumbersFit hub_command (rows_of (found_of matches.now)) }
+    ensures told { result ≡ hub_told (rows_of (found_of matches.now)) }
+    ensures valid { IsValid result.config }
+{
+    HubWords {
+        port: number(matches, "port", 4_444) as u16,
+        config: config(matches),
+        handlers: number(matches, "handlers", 64),
+        workers: number(matches, "workers", 4),
+    }
+}
+
+/// Reads the words of the hub's program, of which the program's name is none. Seconds become
+/// milliseconds, and what no option sets is as by default.
+pub fn hub_words(alloc: Global, words: &[Text]) -> Result<HubWords, WordsFault>
+    ensures taken { IfOk result (λ _. IsTaken hub_command words.now) }
+    ensures said { IfOk result (λ w. w ≡ hub_said words.now) }
+    ensures valid { IfOk result (λ w. IsValid w.config) }
+    ensures refused { IsErrOf result fault.Refused → ¬ (IsTaken hub_command words.now) }
+{
+    let command = command(alloc)?;
+    let texts = texts(alloc, words)?;
+    let matches = found(command, texts.as_slice())?;
+    Ok(told(&matches))
+}

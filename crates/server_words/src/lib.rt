@@ -1,0 +1,17 @@
+//! The words of the grid's programs: their options, limits and defaults, read by `clap`.
+//!
+//! A word that is no option of the program, an option that is set twice, and a value out of form
+//! or limits are refused. A number is read as Rust reads one, so it may have a sign and leading
+//! zeros: `--port +080` is port 80.
+#![tactic(auto)]
+
+mod hub;
+mod node;
+mod options;
+
+pub use hub::{HUB_USAGE, HubWords, hub_words};
+pub use node::{NODE_USAGE, NodeWords, node_words};
+pub use options::WordsFault;
+
+#[cfg(test)]
+mod tests;

@@ -1,0 +1,166 @@
+// Options, what is read of them, and the parse of words.
+ghost use Rattle.std.specs.Prelude.{◌≡◌, ◌≢◌, ◌≤◌, ℕ, IfOk, IfSome, IsErrOf, List, Some, [], map, option_map, false, true, pos};
+ghost use Rattle.clap.specs.Words.{IsSignedIn, app_of, fault_of, first_of, found_of, is_simple_and_free, kind_of, matches_of, rows_of, rule_of};
+ghost use Rattle.server_words.specs.Options.{IsTaken, NumbersFit, number_of, number_or, text_of, text_or, truth_of, truth_or};
+ghost use Rattle.server_words.specs.declared.options.WordsFault.TheVariants as fault;
+
+use clap::builder::ValueParser;
+use clap::error::ErrorKind;
+use clap::{Arg, ArgAction, ArgMatches, Command, Error};
+use grid_types::{NoMemory, Text};
+use std::alloc::{AllocError, Global};
+
+/// Why words tell nothing.
+#[derive(Clone, Copy, Debug, PartialEq, Eq)]
+pub enum WordsFault {
+    /// The program does not take these words.
+    Refused,
+    /// Want of memory.
+    Memory,
+}
+
+impl From<AllocError> for WordsFault {
+    ghost use Rattle.std.specs.Prelude.{◌≡◌};
+    ghost use Rattle.server_words.specs.declared.options.WordsFault.TheVariants as fault;
+
+    ghost from_gives = { λ _ e. e ≡ fault.Memory };
+
+    fn from(_: AllocError) -> Self {
+        WordsFault::Memory
+    }
+}
+
+impl From<NoMemory> for WordsFault {
+    ghost use Rattle.std.specs.Prelude.{◌≡◌};
+    ghost use Rattle.server_words.specs.declared.options.WordsFault.TheVariants as fault;
+
+    ghost from_gives = { λ _ e. e ≡ fault.Memory };
+
+    fn from(_: NoMemory) -> Self {
+        WordsFault::Memory
+    }
+}
+
+/// An option with a number between two limits.
+pub fn number_option<'a>(alloc: Global, name: &'a str, least: u32, most: u32) -> Arg<'a>
+    ensures rule { rule_of result ≡ number_of name.entry.now least most }
+    ensures local { result.global ≡ false }
+{
+    Arg::new(alloc, name)
+        .long(name)
+        .action(ArgAction::Set)
+        .value_parser(ValueParser::Signed(i64::from(least), i64::from(most)))
+}
+
+/// An option with `true` or `false`.
+pub fn truth_option<'a>(alloc: Global, name: &'a str) -> Arg<'a>
+    ensures rule { rule_of result ≡ truth_of name.entry.now }
+    ensures local { result.global ≡ false }
+{
+    Arg::new(alloc, name)
+        .long(name)
+        .action(ArgAction::Set)
+        .value_parser(ValueParser::Bool)
+}
+
+/// An option with any text.
+pub fn text_option<'a>(alloc: Global, name: &'a str) -> Arg<'a>
+    ensures rule { rule_of result ≡ text_of name.entry.now }
+    ensures local { result.global ≡ false }
+{
+    Arg::new(alloc, name)
+        .long(name)
+        .action(ArgAction::Set)
+        .value_parser(ValueParser::String)
+}
+
+/// The words, lent as strings.
+pub fn texts<'a>(alloc: Global, words: &'a [Text]) -> Result<Vec<&'a str>, AllocError>
+    ensures { IfOk result (λ v. map (λ s. s.now) v.items ≡ words.now) }
+{
+    let mut all = Vec::with_capacity(alloc, words.len())?;
+    for word in words {
+        all.push(word.as_str())?;
+    }
+    Ok(all)
+}
+
+fn fault_for(error: &Error) -> WordsFault
+    ensures { result ≡ fault.Refused → kind_of error.now ≢ ErrorKind.OutOfMemory }
+{
+    if error.kind() == ErrorKind::OutOfMemory {
+        WordsFault::Memory
+    } else {
+        WordsFault::Refused
+    }
+}
+
+/// What the command finds in the words.
+pub fn found<'a>(command: Command<'a>, words: &'a [&'a str]) -> Result<ArgMatches<'a>, WordsFault>
+    requires { is_simple_and_free (app_of command) ≡ true }
+    ensures taken { IfOk result (λ _. IsTaken (app_of command.entry) (map (λ s. s.now) words.entry.now)) }
+    ensures rows { IfOk result (λ m. rows_of (found_of m)
+        ≡ matches_of (app_of command.entry) (map (λ s. s.now) words.entry.now)) }
+    ensures numbers { IfOk result (λ m. NumbersFit (app_of command.entry) (rows_of (found_of m))) }
+    ensures refused { IsErrOf result fault.Refused
+        → fault_of (app_of command.entry) (map (λ s. s.now) words.entry.now) ≢ [] }
+{
+    match command.try_get_matches_from(words) {
+        Ok(matches) => Ok(matches),
+        Err(error) => Err(fault_for(&error)),
+    }
+}
+
+/// The text that the words set an option to, where they set it.
+fn set<'a>(matches: &ArgMatches<'a>, name: &str) -> Option<&'a str>
+    ensures { option_map (λ s. s.now) result ≡ first_of name.now (rows_of (found_of matches.now)) }
+{
+    matches.get_str(name)
+}
+
+fn number_in(text: &str) -> u32
+    requires small { IsSignedIn (pos 0) (pos 100_000) text.now }
+    ensures value { result ≡ number_or 0 (Some text.now) }
+    ensures within { (least most : ℕ) → IsSignedIn (pos least) (pos most) text.now
+        → (least ≤ result) × (result ≤ most) }
+{
+    match text.parse::<i64>() {
+        Ok(number) => number as u32,
+        Err(_) => unreachable!(),
+    }
+}
+
+/// The number that an option was set to, or the default.
+pub fn number(matches: &ArgMatches<'_>, name: &str, default: u32) -> u32
+    requires small { IfSome (first_of name.now (rows_of (found_of matches.now)))
+        (IsSignedIn (pos 0) (pos 100_000)) }
+    ensures value { result ≡ number_or default (first_of name.now (rows_of (found_of matches.now))) }
+    ensures within { (least most : ℕ)
+        → IfSome (first_of name.now (rows_of (found_of matches.now))) (IsSignedIn (pos least) (pos most))
+        → least ≤ default → default ≤ most → (least ≤ result) × (result ≤ most) }
+{
+    match set(matches, name) {
+        None => default,
+        Some(text) => number_in(text),
+    }
+}
+
+/// What an option was set to, or the default.
+pub fn truth(matches: &ArgMatches<'_>, name: &str, default: bool) -> bool
+    ensures { result ≡ truth_or default (first_of name.now (rows_of (found_of matches.now))) }
+{
+    match set(matches, name) {
+        None => default,
+        Some(text) => text == "true",
+    }
+}
+
+/// The text that an option was set to, or the default.
+pub fn text<'a>(matches: &ArgMatches<'a>, name: &str, default: &'a str) -> &'a str
+    ensures { result.now ≡ text_or default.entry.now (first_of name.now (rows_of (found_of matches.now))) }
+{
+    match set(matches, name) {
+        None => default,
+        Some(text) => text,
+    }
+}
