@@ -1,5 +1,5 @@
 -- What bind, end and expire publish.
-use Rattle.std.proofs.Common.{◌≡◌, ◌∙◌, ℕ, true, false, max, List, [], ◌∷◌, refl, subst, sym, ap}
+use Rattle.std.proofs.Common.{◌≡◌, ◌∙◌, ℕ, Bool, true, false, cond, ◌&&◌, max, List, [], ◌∷◌, refl, subst, sym, ap}
 use Rattle.std.specs.Prelude.{Option, None, Some, nat_lt, is_some}
 use Rattle.grid_types.specs.declared.entry.Entry.{Entry}
 use Rattle.grid_types.specs.declared.entry.Change.TheVariants as change
@@ -11,14 +11,14 @@ use Rattle.grid_types.specs.declared.capabilities.Cap.{Cap}
 use Rattle.grid_types.specs.declared.config.HubConfig.{HubConfig}
 use Rattle.grid_types.specs.Lists.{least}
 use Rattle.grid_types.specs.History.{clock}
-use Rattle.grid_types.specs.Nodes.{address_of}
+use Rattle.grid_types.specs.Nodes.{address_of, is_spent, is_base_up}
 use Rattle.grid_types.specs.Bindings.{Running, bound_of}
 use Rattle.grid_types.specs.Sessions.{live}
 use Rattle.grid_types.specs.Legal.{legal}
 use Rattle.grid_types.specs.Tables.{entry}
 use Rattle.grid_types.specs.Tokens.{Reservation, Closing, closing_of, reservation_of}
 use Rattle.grid_types.specs.Calls.{Call, Reply}
-use Rattle.grid_types.specs.HubAnswers.{hub, after_call, moment, is_binding, idle_bindings}
+use Rattle.grid_types.specs.HubAnswers.{hub, after_call, moment, drain_after_bind, is_binding, idle_bindings}
 use Rattle.grid_types.specs.LookupMap.{Item, put, removal, removal_of, published, changes}
 use Rattle.grid_types.proofs.MapLemmas.{running-live, live-running}
 use Rattle.hub_core.specs.declared.hub.HubCore.{HubCore}
@@ -34,6 +34,7 @@ use Rattle.grid_types.specs.Tables.{Keeps}
 use Rattle.hub_core.specs.CoreStands.{Stands, CoreKeeps, CoreTells, is_known}
 use Rattle.hub_core.specs.Ahead.{Publishes, BindsThere, RefusesThere, is_bound, put_of, removal_in}
 use Rattle.grid_types.specs.Requests.{place}
+use Rattle.hub_core.proofs.SilentLemmas.{AllSilent, silent-after}
 use Rattle.hub_core.proofs.BindLemmas.{bind-refused, bind-kept}
 use Rattle.hub_core.proofs.SettledLemmas.{reservation-known}
 use Rattle.hub_core.proofs.CoreSessionLemmas.{end-none, end-ended, expire-none, expire-expired}
@@ -51,14 +52,20 @@ not-bound w d = refl
 reply-is : (a b : Reply) → Some a ≡ Some b → is_bound b ≡ is_bound a
 reply-is a b e = let same : a ≡ b = cc in ap is_bound (sym same)
 
+drain-silent : (b : Bool) (n m : ℕ) → AllSilent (cond b (change.Draining n (moment m) ∷ []) [])
+drain-silent true n m = ((λ L. refl), tt)
+drain-silent false n m = tt
+
 pub binds-there : (c : HubConfig) (H : List Entry) (k : ℕ) (t : Reservation) (x : List ℕ) (caps : List Cap) (at : ℕ) → refusal_of H t x caps ≡ None → t.address ≡ address_of H t.slot.node → BindsThere c H k t x caps at
 binds-there c H k t x caps at none its =
     let now : Moment = moment (max at (clock H)) in
     let exact = bind-kept H t x caps at now refl none c k in
+    let G : List Entry = entry k (change.Bound t.request t.slot x caps now) ∷ H in
     record {
       binds = reply-is _ _ exact.replies;
       puts = by_history c H k (Call.bind t x caps) at _ _ (put_of t x ∷ []) exact
-          (ap (λ (a : List ℕ). put (record { session = x; slot = t.slot; address = a; binding = t.request }) ∷ changes H) (sym its));
+          (silent-after G k (drain_after_bind G t.slot.node now.0) (drain-silent (is_spent G t.slot.node && is_base_up G t.slot.node) t.slot.node now.0)
+          ∙ ap (λ (a : List ℕ). put (record { session = x; slot = t.slot; address = a; binding = t.request }) ∷ changes H) (sym its));
     }
 
 pub refuses-there : (c : HubConfig) (H : List Entry) (k : ℕ) (t : Reservation) (x : List ℕ) (caps : List Cap) (at : ℕ) (w : FailWhy) → refusal_of H t x caps ≡ Some w → RefusesThere c H k t x caps at

@@ -18,7 +18,7 @@ use Rattle.grid_types.specs.Slots.{Holder, free, holder, is_busy, slots_of}
 use Rattle.grid_types.specs.Legal.{legal}
 use Rattle.grid_types.specs.Tables.{entry}
 use Rattle.grid_types.specs.Calls.{Call, Reply}
-use Rattle.grid_types.specs.HubAnswers.{hub, after_call, moment, lapsed_nodes, lapses, time_outs, removals, swept}
+use Rattle.grid_types.specs.HubAnswers.{hub, after_call, moment, lapsed_nodes, lapses, suspicions, time_outs, removals, swept}
 use Rattle.grid_types.specs.LookupMap.{Item, removal, session_in, sessions_on, published_by, published, changes}
 use Rattle.reservation.specs.declared.slot_use.SlotUse.{SlotUse}
 use Rattle.reservation.specs.Table.{holder_of}
@@ -79,7 +79,9 @@ lapsed-ascend : (c : HubConfig) (H : List Entry) (m : ℕ) → legal c H ≡ tru
 lapsed-ascend c H m l = IsStrictlySortedBy-filter nat_cmp _ (nodes H) (nodes-ascend c H l)
 
 swept-after : (c : HubConfig) (H : List Entry) (k at : ℕ) →
-    after_call c H k Call.sweep at ≡ after H k ((lapses c H (max at (clock H)) ++ time_outs H (max at (clock H))) ++ removals (after H k (lapses c H (max at (clock H)))) (max at (clock H)))
+    after_call c H k Call.sweep at ≡ after H k
+        (((lapses c H (max at (clock H)) ++ suspicions c (after H k (lapses c H (max at (clock H)))) (max at (clock H))) ++ time_outs H (max at (clock H)))
+        ++ removals (after H k (lapses c H (max at (clock H)))) (max at (clock H)))
 unfolding hub
 swept-after c H k at = refl
 
@@ -92,9 +94,10 @@ sweep-publishes c H k at l =
     let m : ℕ = max at (clock H) in
     let later : List Entry = after H k (lapses c H m) in
     ap changes (swept-after c H k at)
-    ∙ (silent-behind H k (lapses c H m ++ time_outs H m) (removals later m) (silent-map _ _ (λ n L. refl))
-    ∙ (silent-behind H k (lapses c H m) (time_outs H m) (silent-map _ _ (λ r L. refl))
-    ∙ lapsed-changes H k (moment m) (lapsed_nodes c H m) (lapsed-ascend c H m l)))
+    ∙ (silent-behind H k ((lapses c H m ++ suspicions c later m) ++ time_outs H m) (removals later m) (silent-map _ _ (λ n L. refl))
+    ∙ (silent-behind H k (lapses c H m ++ suspicions c later m) (time_outs H m) (silent-map _ _ (λ r L. refl))
+    ∙ (silent-behind H k (lapses c H m) (suspicions c later m) (silent-map _ _ (λ n L. refl))
+    ∙ lapsed-changes H k (moment m) (lapsed_nodes c H m) (lapsed-ascend c H m l))))
 
 fused : {X : Type 0} (f : X → Holder) (xs : List X) → filter_map (λ x. session_in (f x)) xs ≡ filter_map session_in (map f xs)
 fused f [] = refl

@@ -73,7 +73,7 @@ quiet-enqueued c H choices m =
     quiet-tests (nat_le (2 ^ 64 - 1) (next_request c H)) (c.reject_unsupported && not (is_supported H choices))
     (nat_le c.queue_requests (length (unsettled H)) || nat_lt most_bytes (unsettled_bytes H + request_bytes choices))
     (says Reply.numbers_spent) (says Reply.unsupported) (says (Reply.queue_full (length (unsettled H)) (unsettled_bytes H)))
-    (makes (change.Queued (next_request c H) choices (moment (deadline_at c m)) (moment m)) (Reply.queued (record { request = next_request c H; deadline = deadline_at c m })))
+    (makes (change.Queued (next_request c H) choices (moment (deadline_at c choices m)) (moment m)) (Reply.queued (record { request = next_request c H; deadline = deadline_at c choices m })))
     (says-quiet _) (says-quiet _) (says-quiet _) (makes-quiet _ _ (λ L. refl))
 
 quiet-open : (H : List Entry) (k r m : ℕ) (o : Option Assignment) → IsQuiet (polled_open H k r m o)
