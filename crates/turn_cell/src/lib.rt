@@ -7,6 +7,7 @@ mod plays;
 mod stands;
 mod views;
 
-pub use cell::{Pass, Spent, Turn, TurnCell};
+pub use cell::{Pass, Turn, TurnCell};
+pub use grid_types::Spent;
 pub use stands::{Made, Stands};
 pub use views::{Doing, Ended, Stage, View};

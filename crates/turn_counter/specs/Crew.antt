@@ -2,7 +2,7 @@
 use Rattle.std.specs.Prelude.{◌≡◌, ℕ, List, [], ◌∷◌, length, Result, IfOk}
 use Rattle.turn_cell.specs.declared.views.Ended.{Ended}
 use Rattle.turn_cell.specs.declared.cell.Pass.{Pass}
-use Rattle.turn_cell.specs.declared.cell.Spent.{Spent}
+use Rattle.grid_types.specs.declared.spent.Spent.{Spent}
 use Rattle.turn_cell.specs.declared.cell.TurnCell.{TurnCell}
 use Rattle.turn_cell.specs.Cells.{view_of, IsOf, IsFree}
 

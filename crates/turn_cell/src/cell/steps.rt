@@ -5,13 +5,13 @@ ghost use Rattle.turn_cell.specs.declared.views.Stage.TheVariants.{Idle, Waits, 
 ghost use Rattle.turn_cell.specs.Rule.{doing, AllBy};
 ghost use Rattle.turn_cell.specs.Steps.{looked_once, seeing, after, Finds, IsExact, ticket_in, parts_in};
 
-use crate::cell::Spent;
 use crate::cell::patience::Patience;
 use crate::plays::{Draw, LookAtServing, LookAtTicket, Note, Place, Raise, Turns};
 use crate::stands::{Made, Stands};
 use crate::views::{Doing, Start};
 use atomic_table::Shared;
 use crossbeam_utils::Backoff;
+use grid_types::Spent;
 use std::sync::Wait;
 
 pub(super) type Top<V> = Shared<Option<V>, Doing<V>, Start<V>, Turns>;

@@ -6,10 +6,10 @@ ghost use Rattle.turn_cell.specs.Steps.{looked_once, seeing, after, after_none, 
 ghost use Rattle.turn_cell.specs.Cells.{origin_of, first_of, view_of, IsOf, IsFree, HasTurn};
 
 use crate::cell::steps::{draw, give, take};
-use crate::cell::{Pass, Spent, Turn, TurnCell};
+use crate::cell::{Pass, Turn, TurnCell};
 use crate::plays::{Glue, Nothing, Part, Settle};
 use crate::stands::{Made, Stands};
-use grid_types::NoMemory;
+use grid_types::{NoMemory, Spent};
 use std::sync::Wait;
 
 impl<V: Stands> TurnCell<V> {
