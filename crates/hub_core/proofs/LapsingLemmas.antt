@@ -80,8 +80,8 @@ lapsed-ascend c H m l = IsStrictlySortedBy-filter nat_cmp _ (nodes H) (nodes-asc
 
 swept-after : (c : HubConfig) (H : List Entry) (k at : ℕ) →
     after_call c H k Call.sweep at ≡ after H k
-        (((lapses c H (max at (clock H)) ++ suspicions c (after H k (lapses c H (max at (clock H)))) (max at (clock H))) ++ time_outs H (max at (clock H)))
-        ++ removals (after H k (lapses c H (max at (clock H)))) (max at (clock H)))
+    (((lapses c H (max at (clock H)) ++ suspicions c (after H k (lapses c H (max at (clock H)))) (max at (clock H))) ++ time_outs H (max at (clock H)))
+    ++ removals (after H k (lapses c H (max at (clock H)))) (max at (clock H)))
 unfolding hub
 swept-after c H k at = refl
 
@@ -129,6 +129,7 @@ found-in p q (x ∷ xs) n h = by_test (q x) refl h (found-in p q xs n)
     by_found : (w : Bool) → q x ≡ true → cond w (Some x) (find p (filter q xs)) ≡ Some n → (find p (filter q xs) ≡ Some n → q n ≡ true) → q n ≡ true
     by_found true e g rest = let same : x ≡ n = cc in subst (λ (z : ℕ). q z ≡ true) same e
     by_found false e g rest = rest g
+
     by_test : (v : Bool) → q x ≡ v → find p (cond v (x ∷ filter q xs) (filter q xs)) ≡ Some n → (find p (filter q xs) ≡ Some n → q n ≡ true) → q n ≡ true
     by_test true e g rest = by_found (p x) e g rest
     by_test false e g rest = rest g
