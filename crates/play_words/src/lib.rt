@@ -1,0 +1,17 @@
+//! The words of a play: the nodes that a grid in memory has, and how its hub is set up.
+#![tactic(auto)]
+
+mod laws;
+mod node;
+mod nodes;
+mod number;
+mod options;
+mod play;
+mod words;
+
+pub use laws::words_say_one_play;
+pub use play::{PlayNode, PlayNodes, PlayWords, WordsFault};
+pub use words::{read_play, read_simulate};
+
+#[cfg(test)]
+mod tests;
