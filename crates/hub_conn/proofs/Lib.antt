@@ -1,0 +1,11 @@
+mod ReadLemmas
+mod ScriptLemmas
+mod EndLemmas
+mod InboxLemmas
+mod StateLemmas
+mod WriteLemmas
+mod GoLemmas
+mod TalkLemmas
+mod FeedLemmas
+mod LookLemmas
+mod AwaitLemmas

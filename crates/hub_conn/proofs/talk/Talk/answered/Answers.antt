@@ -1,0 +1,43 @@
+use Rattle.std.proofs.Common.{◌∙◌, refl, sym, subst, Bool}
+use Rattle.conn_script.specs.declared.wants.Answer.TheVariants as told
+use Rattle.conn_script.specs.Moving.{Moves}
+use Rattle.hub_conn.specs.declared.talk.State.TheVariants as states
+use Rattle.hub_conn.proofs.AwaitLemmas.{awaits_at, scripts_only}
+use Rattle.hub_conn.proofs.FeedLemmas.{running_some, answerable_kept, feeds_turn, feeds_undo}
+use Rattle.hub_conn.proofs.talk.Talk.answered.Goals as goal
+
+pub answered-turn-requires : goal.answered-turn-requires
+answered-turn-requires c =
+    awaits_at c.args.self.now (states.Running c.in-Running.run') (told.Hub c.args.answer) (sym c.take_state.ensures.taken ∙ c.in-Running.is) c.requires.awaits
+
+pub turn-requires-clause-front : goal.turn-requires-clause-front
+turn-requires-clause-front c =
+    answerable_kept c.args.self.now c.take_state.new.self c.take_state.ensures.rests
+    (running_some c.args.self.now c.in-Running.run' (sym c.take_state.ensures.taken ∙ c.in-Running.is) c.requires.stands)
+
+pub turn-requires-clause-fresh : goal.turn-requires-clause-fresh
+turn-requires-clause-fresh c = c.answered-turn.ensures.fresh
+
+pub returns-in-Running : goal.returns-in-Running
+returns-in-Running c =
+    feeds_turn c.args.self.now c.take_state.new.self c.turn.new.self c.in-Running.run' (told.Hub c.args.answer) c.answered-turn.result
+    (sym c.take_state.ensures.taken ∙ c.in-Running.is)
+    (subst (λ (b : Bool). Moves c.in-Running.run' (told.Hub c.args.answer) b c.answered-turn.result) c.take_state.ensures.rests.closing c.answered-turn.ensures)
+    c.take_state.ensures.rests c.turn.ensures.settles c.turn.ensures.goes refl refl (λ w. refl)
+
+pub returns-in-Undoing : goal.returns-in-Undoing
+returns-in-Undoing c =
+    feeds_undo c.args.self.now c.undone.new.self c.in-Undoing.fault c.in-Undoing.undoing c.answered.result (told.Hub c.args.answer)
+    (sym c.take_state.ensures.taken ∙ c.in-Undoing.is) c.answered.ensures c.undone.ensures.settles c.undone.ensures.undone refl refl (λ w. refl)
+
+pub answered-requires : goal.answered-requires
+answered-requires c =
+    awaits_at c.args.self.now (states.Undoing c.in-Undoing.fault c.in-Undoing.undoing) (told.Hub c.args.answer) (sym c.take_state.ensures.taken ∙ c.in-Undoing.is) c.requires.awaits
+
+pub undone-requires : goal.undone-requires
+undone-requires c = c.answered.ensures.fresh
+
+pub unreachable-requires : goal.unreachable-requires
+unreachable-requires c =
+    scripts_only c.args.self.now (told.Hub c.args.answer) tt c.requires.awaits (λ r e. c.in_default.not-Running r (c.take_state.ensures.taken ∙ e))
+    (λ fault u e. c.in_default.not-Undoing fault u (c.take_state.ensures.taken ∙ e))

@@ -1,0 +1,48 @@
+-- The bytes that came and are not answered yet.
+use Rattle.std.specs.Prelude.{◌≡◌, ◌≢◌, ℕ, ◌≤◌, Bool, true, List, [], ◌++◌, length, drop}
+use Rattle.http_frames.specs.declared.frames.TheConstants.{LIMITS}
+use Rattle.http_frames.specs.Frames.{Request, IsWhole, IsAwaited, IsRefused, closes}
+use Rattle.http_frames.specs.Feeding.{Fed, awaits_more, is_whole}
+use Rattle.hub_conn.specs.declared.inbox.Inbox.{Inbox}
+use Rattle.hub_conn.specs.declared.inbox.Seen.{Seen}
+use Rattle.hub_conn.specs.declared.inbox.Seen.TheVariants as seen
+
+-- the bytes of the piece that were not read yet
+abbrev pub unread : Inbox → List ℕ
+unread inbox = drop inbox.fed inbox.piece.items
+
+-- these bytes were read, as far as one request goes
+pub record HasRead (inbox : Inbox) (front : List ℕ) : Type 0 where
+  pub stands : Fed LIMITS inbox.reader front
+  pub within : inbox.fed ≤ length inbox.piece.items
+
+-- these bytes are not answered yet
+abbrev pub Holds : Inbox → List ℕ → Type 0
+Holds inbox bytes = (front : List ℕ) × HasRead inbox front × (bytes ≡ front ++ unread inbox)
+
+abbrev pub HoldsSome : Inbox → Type 0
+HoldsSome inbox = (bytes : List ℕ) × Holds inbox bytes
+
+-- all bytes were read, or no more are awaited for the request at the front
+abbrev pub IsFilled : Inbox → Type 0
+IsFilled inbox = awaits_more inbox.reader ≡ true → unread inbox ≡ []
+
+-- the request at the front is whole
+abbrev pub HoldsWhole : Inbox → List ℕ → Request → Type 0
+HoldsWhole inbox bytes f =
+    (front : List ℕ) × HasRead inbox front × (bytes ≡ front ++ unread inbox)
+    × IsWhole LIMITS front f.0 f.1 [] × (is_whole inbox.reader ≡ true)
+
+abbrev pub HoldsSomeWhole : Inbox → Type 0
+HoldsSomeWhole inbox = (bytes : List ℕ) × (f : Request) × HoldsWhole inbox bytes f
+
+-- what stands at the front
+abbrev pub IsSeen : Inbox → List ℕ → Seen → Type 0
+IsSeen inbox bytes (seen.Whole closing) = (f : Request) × HoldsWhole inbox bytes f × (closing ≡ closes f.0)
+IsSeen inbox bytes seen.More = (waits : Bool) × IsAwaited LIMITS bytes waits
+IsSeen inbox bytes (seen.Refused why) = IsRefused LIMITS bytes why × (bytes ≢ [])
+
+-- the request is gone, and so many bytes stand behind it
+abbrev pub LeavesRest : List ℕ → Request → ℕ → Inbox → Type 0
+LeavesRest bytes f left new =
+    (behind : List ℕ) × IsWhole LIMITS bytes f.0 f.1 behind × Holds new behind × (left ≡ length behind)
