@@ -1,0 +1,15 @@
+//! A driver that already runs, put behind the hub as a node: it is registered, and beats are sent for it while it answers.
+#![tactic(auto)]
+
+mod attaching;
+mod driver;
+mod program;
+mod words;
+
+pub use attaching::{BEAT_MS, RETRY_MS, attach};
+pub use driver::is_ready;
+pub use program::attach_main;
+pub use words::{ATTACH_USAGE, AttachWords, read_words};
+
+#[cfg(test)]
+mod tests;

@@ -1,0 +1,65 @@
+// Serving the links that come in.
+ghost use Rattle.std.specs.Prelude.{◌≡◌, ◌≤◌, ◌⊎◌};
+ghost use Rattle.grid_outside.specs.Counts.{Rose};
+ghost use Rattle.grid_node.specs.Statuses.{HasServed};
+
+use crate::beating::{Shared, beat_between};
+use grid_outside::{Clock, Door, Link};
+use loop_node::{LoopNode, serve_node};
+use std::alloc::Global;
+use std::sync::Wait;
+use std::sync::atomic::Ordering;
+
+/// The door was closed.
+pub(crate) const CLOSED: u8 = 0;
+
+/// The door failed.
+pub(crate) const DOOR_FAILED: u8 = 3;
+
+/// Serves one link, under the number that the hub answered last.
+fn serve_link<L: Link>(alloc: Global, shared: &Shared<'_>, node: &mut LoopNode, link: &mut L) {
+    let number = shared.number.load(Ordering::SeqCst);
+    if number != node.number() {
+        node.renumber(number);
+    }
+    // What ends one link concerns no other.
+    let _ = serve_node(alloc, node, link);
+}
+
+fn accept_links<R: Wait, D: Door>(
+    rt: &R,
+    alloc: Global,
+    shared: &Shared<'_>,
+    node: &mut LoopNode,
+    door: &mut D,
+) -> u8
+    ensures { HasServed (D.ends door.old) (D.ends door.new) (D.faults door.old) (D.faults door.new) result }
+{
+    let mut nodes = door.nodes();
+    let mut clock = door.clock();
+    let mut last = clock.now().0;
+    for _ in rt.forever() {
+        last = beat_between(alloc, shared, &mut nodes, &mut clock, last);
+        match door.accept() {
+            Ok(Some(mut link)) => serve_link(alloc, shared, node, &mut link),
+            Ok(None) => return CLOSED,
+            Err(_) => return DOOR_FAILED,
+        }
+    }
+    unreachable!()
+}
+
+/// Serves the links one after the other until the door is closed or fails, and tells the beats so.
+pub(crate) fn serve_links<R: Wait, D: Door>(
+    rt: &R,
+    alloc: Global,
+    shared: &Shared<'_>,
+    node: &mut LoopNode,
+    door: &mut D,
+) -> u8
+    ensures { HasServed (D.ends door.old) (D.ends door.new) (D.faults door.old) (D.faults door.new) result }
+{
+    let status = accept_links(rt, alloc, shared, node, door);
+    shared.closed.store(true, Ordering::SeqCst);
+    status
+}

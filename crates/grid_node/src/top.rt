@@ -1,0 +1,164 @@
+// The whole of the node's program, over any door.
+ghost use Rattle.std.specs.Prelude.{◌≡◌, ◌≤◌, ◌⊎◌, IfOk};
+ghost use Rattle.std.specs.Thread.{IsSync};
+ghost use Rattle.grid_outside.specs.Counts.{Rose};
+ghost use Rattle.server_words.specs.NodeOptions.{FitsNode};
+ghost use Rattle.node_signs.specs.Signs.{registration_bytes};
+ghost use Rattle.grid_node.specs.Registration.{node_registration};
+ghost use Rattle.grid_node.specs.Statuses.{HasServed, HasRun};
+
+use crate::beating::{Shared, keep_beating, registered};
+use crate::registering::{VERSION, registration};
+use crate::serving::{DOOR_FAILED, serve_links};
+use grid_outside::{Clock, Door, NodeLink};
+use grid_types::{Bytes, NoMemory, NodeAddress, Text};
+use loop_node::LoopNode;
+use node_signs::registration_body;
+use server_words::{NodeWords, WordsFault, node_words};
+use std::alloc::Global;
+use std::sync::Wait;
+use std::sync::atomic::{AtomicBool, AtomicU32};
+use std::thread::{Threads, join};
+
+/// The words don't fit.
+const REFUSED: u8 = 2;
+
+/// Want of memory.
+const NO_MEMORY: u8 = 5;
+
+/// Ends a loan.
+fn take_back<T>(x: &mut T)
+    ensures { x.new ≡ x.old }
+{}
+
+/// Serves the links, with the beats in a thread of their own.
+fn serve_beside_beats<
+    R: Threads + Wait + Sync,
+    D: Door,
+    N: NodeLink + Send + Drop,
+    C: Clock + Send + Drop,
+>(
+    rt: &R,
+    alloc: Global,
+    shared: &Shared<'_>,
+    mut nodes: N,
+    mut clock: C,
+    mut node: LoopNode,
+    door: &mut D,
+) -> u8
+    ensures { HasServed (D.ends door.old) (D.ends door.new) (D.faults door.old) (D.faults door.new) result }
+{
+    let lent = &mut *door;
+    let (_, (lent, status)) = join(
+        rt,
+        move || keep_beating(rt, alloc, shared, &mut nodes, &mut clock),
+        move || -> (&mut D, u8)
+            ensures { (result.0.ghost_name ≡ lent.entry.ghost_name)
+                × HasServed (D.ends lent.entry.now) (D.ends result.0.now) (D.faults lent.entry.now) (D.faults result.0.now) result.1 }
+        {
+            let status = serve_links(rt, alloc, shared, &mut node, lent);
+            (lent, status)
+        },
+    );
+    take_back(lent);
+    status
+}
+
+/// How many slots the node has; the words give at most 64.
+fn slots_of(words: &NodeWords) -> u16 {
+    u16::try_from(words.slots).unwrap_or(u16::MAX)
+}
+
+/// The body of the node's registration.
+fn body_of(alloc: Global, words: &NodeWords, slots: u16) -> Result<Bytes, NoMemory>
+    ensures { IfOk result (λ body. body
+        ≡ registration_bytes (node_registration words.now.name words.now.port words.now.browser slots)) }
+{
+    let name = words.name.as_str();
+    let browser = words.browser.as_str();
+    let node = registration(alloc, name, words.port, browser, slots)?;
+    registration_body(alloc, &node)
+}
+
+/// The node before it has a number.
+fn node_of(alloc: Global, words: &NodeWords, slots: u16) -> Result<LoopNode, NoMemory> {
+    let browser = Text::of(alloc, words.browser.as_str())?;
+    let version = Text::of(alloc, VERSION)?;
+    Ok(LoopNode::new(alloc, 0, browser, version, slots, 0))
+}
+
+/// Registers at the hub and serves the links, behind a door that is bound.
+fn serve_registered<R: Threads + Wait + Sync, D: Door>(
+    rt: &R,
+    alloc: Global,
+    hub: NodeAddress,
+    body: &[u8],
+    mut node: LoopNode,
+    door: &mut D,
+) -> u8
+    ensures { HasServed (D.ends door.old) (D.ends door.new) (D.faults door.old) (D.faults door.new) result }
+{
+    let mut nodes = door.nodes();
+    let mut clock = door.clock();
+    let number = registered(rt, alloc, &mut nodes, &mut clock, &hub, body);
+    node.renumber(number);
+    let latest = AtomicU32::new(number);
+    let closed = AtomicBool::new(false);
+    let beating = AtomicBool::new(false);
+    let shared = Shared {
+        hub,
+        body,
+        number: &latest,
+        closed: &closed,
+        beating: &beating,
+    };
+    serve_beside_beats(rt, alloc, &shared, nodes, clock, node, door)
+}
+
+/// Runs the node that the words tell of.
+fn run<R: Threads + Wait + Sync, D: Door>(
+    rt: &R,
+    alloc: Global,
+    words: &NodeWords,
+    door: &mut D,
+) -> u8
+    ensures { HasRun (D.ends door.old) (D.ends door.new) (D.faults door.old) (D.faults door.new) result }
+{
+    let slots = slots_of(words);
+    let Ok(body) = body_of(alloc, words, slots) else {
+        return NO_MEMORY;
+    };
+    let Ok(node) = node_of(alloc, words, slots) else {
+        return NO_MEMORY;
+    };
+    match door.bind(words.port) {
+        Ok(()) => serve_registered(rt, alloc, words.hub, body.as_bytes(), node, door),
+        Err(_) => DOOR_FAILED,
+    }
+}
+
+/// The program of a node: its words are those of the command line without the program's name. It binds
+/// the door, registers at the hub and serves the links that come in one after the other, until the
+/// door is closed. It need not return.
+///
+/// 0: the door was closed. 2: the words don't fit. 3: the door could not be bound, or failed. 5: want
+/// of memory.
+pub fn node_main<R: Threads + Wait + Sync, D: Door>(
+    rt: &R,
+    alloc: Global,
+    words: &[Text],
+    door: &mut D,
+) -> u8
+    ensures closed { result ≡ 0 → Rose (D.ends door.old) (D.ends door.new) }
+    ensures misfit { result ≡ 2 → ¬ (FitsNode words.now) }
+    ensures refuses { ¬ (FitsNode words.now) → (result ≡ 2) ⊎ (result ≡ 5) }
+    ensures failed { result ≡ 3 → Rose (D.faults door.old) (D.faults door.new) }
+    ensures later { (D.ends door.old ≤ D.ends door.new) × (D.faults door.old ≤ D.faults door.new) }
+    ensures statuses { (result ≡ 0) ⊎ ((result ≡ 2) ⊎ ((result ≡ 3) ⊎ (result ≡ 5))) }
+{
+    match node_words(alloc, words) {
+        Ok(words) => run(rt, alloc, &words, door),
+        Err(WordsFault::Refused) => REFUSED,
+        Err(WordsFault::Memory) => NO_MEMORY,
+    }
+}

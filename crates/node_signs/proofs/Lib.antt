@@ -1,0 +1,2 @@
+pub mod AsciiNames
+pub mod Rows

@@ -1,0 +1,13 @@
+//! What a node tells the hub of itself: its registration, and its beats.
+#![tactic(auto)]
+
+mod body;
+mod number;
+mod signs;
+
+pub use body::registration_body;
+pub use number::number_told;
+pub use signs::{Beat, SERVED, register, send_beat};
+
+#[cfg(test)]
+mod tests;

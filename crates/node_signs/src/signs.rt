@@ -1,0 +1,121 @@
+// The two exchanges of a node with the hub.
+ghost use Rattle.std.specs.Prelude.{◌≡◌, OnOk};
+ghost use Rattle.grid_outside.specs.declared.exchange.Reply.TheVariants as reply_of;
+ghost use Rattle.grid_outside.specs.Exchanges.{Came};
+ghost use Rattle.node_signs.specs.Signs.{ask_to_beat, ask_to_post, ask_to_register, BeatIs, RegisterIs};
+
+use crate::number::number_told;
+use grid_outside::{ExchangeFault, NodeLink, NodeReply, NodeRequest, Reply};
+use grid_types::{NoMemory, NodeAddress, NodeNo};
+use std::alloc::Global;
+
+/// The status of a request that was served (RFC 9110 §15.3.1).
+pub const SERVED: u16 = 200;
+
+/// What came of a beat.
+#[derive(Clone, Copy, Debug, PartialEq, Eq)]
+pub enum Beat {
+    /// The hub took it.
+    Taken,
+    /// The hub answered with another status: it has no such node registered.
+    Refused,
+    /// The hub gave no answer of HTTP.
+    Unanswered,
+}
+
+fn number_in(reply: &NodeReply) -> Option<NodeNo>
+    ensures { RegisterIs (Ok (reply_of.Http reply.now)) (Ok result) }
+{
+    if reply.status == SERVED {
+        number_told(reply.body.as_bytes())
+    } else {
+        None
+    }
+}
+
+fn registered(came: &Result<Reply, ExchangeFault>) -> Result<Option<NodeNo>, NoMemory>
+    ensures { RegisterIs came.now result }
+{
+    match came {
+        Ok(Reply::Http(reply)) => Ok(number_in(reply)),
+        Ok(Reply::NotHttp(_)) => Ok(None),
+        Err(ExchangeFault::Unreachable) => Ok(None),
+        Err(ExchangeFault::Memory) => Err(NoMemory),
+    }
+}
+
+/// Asks the hub to register a node with this body: its number there, or None where the hub gave none. Err is want of
+/// memory, in which the hub was not asked.
+pub fn register<N: NodeLink>(
+    alloc: Global,
+    nodes: &mut N,
+    hub: &NodeAddress,
+    body: &[u8],
+) -> Result<Option<NodeNo>, NoMemory>
+    ensures { (came : Came) × (N.gives nodes.old hub.now (ask_to_register body.now) came nodes.new) × (RegisterIs came result) }
+{
+    let request = NodeRequest {
+        method: b"POST",
+        target: b"/se/grid/distributor/node",
+        accept: None,
+        accept_encoding: None,
+        content_type: Some(b"application/json; charset=utf-8"),
+        content_encoding: None,
+        body,
+    };
+    let came = nodes.exchange(alloc, hub, &request);
+    registered(&came)
+}
+
+fn taken(came: &Result<Reply, ExchangeFault>) -> Result<Beat, NoMemory>
+    ensures { BeatIs came.now result }
+{
+    match came {
+        Ok(Reply::Http(reply)) => {
+            if reply.status == SERVED {
+                Ok(Beat::Taken)
+            } else {
+                Ok(Beat::Refused)
+            }
+        }
+        Ok(Reply::NotHttp(_)) => Ok(Beat::Unanswered),
+        Err(ExchangeFault::Unreachable) => Ok(Beat::Unanswered),
+        Err(ExchangeFault::Memory) => Err(NoMemory),
+    }
+}
+
+fn told<N: NodeLink>(
+    alloc: Global,
+    nodes: &mut N,
+    hub: &NodeAddress,
+    target: &[u8],
+) -> Result<Beat, NoMemory>
+    ensures { (came : Came) × (N.gives nodes.old hub.now (ask_to_post target.now) came nodes.new) × (BeatIs came result) }
+{
+    let request = NodeRequest {
+        method: b"POST",
+        target,
+        accept: None,
+        accept_encoding: None,
+        content_type: None,
+        content_encoding: None,
+        body: b"",
+    };
+    let came = nodes.exchange(alloc, hub, &request);
+    taken(&came)
+}
+
+/// Tells the hub that the node of this number is alive. Err is want of memory, in which the hub was not told.
+pub fn send_beat<N: NodeLink>(
+    alloc: Global,
+    nodes: &mut N,
+    hub: &NodeAddress,
+    node: NodeNo,
+) -> Result<Beat, NoMemory>
+    ensures { OnOk result ((came : Came) × (N.gives nodes.old hub.now (ask_to_beat node) came nodes.new) × (BeatIs came result)) }
+{
+    match format!(in alloc; "/se/grid/distributor/node/{node}/beat") {
+        Ok(target) => told(alloc, nodes, hub, target.as_bytes()),
+        Err(_) => Err(NoMemory),
+    }
+}
