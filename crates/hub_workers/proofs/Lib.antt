@@ -1,0 +1,4 @@
+pub mod LookLemmas
+pub mod TurnLemmas
+pub mod WayLemmas
+pub mod WorkLemmas

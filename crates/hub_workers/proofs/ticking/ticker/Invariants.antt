@@ -1,0 +1,13 @@
+use Rattle.hub_cell.specs.Passes.{IsOf, knows}
+use Rattle.hub_workers.specs.Turns.{Turns, WentBy, TickerTurn}
+use Rattle.hub_workers.specs.World.{world_of}
+use Rattle.hub_workers.proofs.ticking.ticker.Given as goal
+
+-- so many turns were made
+abbrev pub invariant-loop : goal.invariant-loop
+invariant-loop g l = record {
+  own : IsOf l.hub l.pass;
+  way : WentBy l.hub g.N.NodeLink.gives (Turns TickerTurn l.counter)
+      (world_of (knows l.fn.pass) l.fn.nodes (g.C.Clock.moment l.fn.clock) (g.C.Clock.pauses l.fn.clock))
+      (world_of (knows l.pass) l.nodes (g.C.Clock.moment l.clock) (g.C.Clock.pauses l.clock));
+}

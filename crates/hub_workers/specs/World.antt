@@ -1,0 +1,72 @@
+-- What the steps of a pass say of the shared hub, of the nodes and of the clock.
+use Rattle.std.specs.Prelude.{◌≡◌, ◌⊎◌, ℕ, ◌+◌, Bool, true, false, List, [], ◌∷◌, Option, None, Some, IfSome}
+use Rattle.grid_types.specs.Calls.{Call, Reply}
+use Rattle.grid_outside.specs.Told.{Pauses}
+use Rattle.grid_outside.specs.declared.exchange.Ask.{Ask}
+use Rattle.grid_outside.specs.Exchanges.{Came}
+use Rattle.turn_cell.specs.declared.views.View.{View}
+use Rattle.grid_types.specs.declared.spent.Spent as spent
+use Rattle.hub_cell.specs.declared.grid.Grid.{Grid}
+use Rattle.hub_cell.specs.declared.hub.SharedHub.{SharedHub}
+use Rattle.hub_cell.specs.Passes.{IsSpent, config_of}
+use Rattle.hub_cell.specs.Shared.{LooksOnce, SharedServes}
+use Rattle.node_client.specs.Runs.{Exchanges, Still, Timed, pauses_after}
+use Rattle.node_client.specs.Steps.{Step, Called, Spent, Exchanged, Paused}
+
+-- what a pass knows
+abbrev pub Knowledge : Type 0
+Knowledge = View Grid
+
+-- a call that takes room ahead of its change, and finds none
+abbrev pub wants_room : Call → Bool
+wants_room Call.sweep = true
+wants_room Call.expire = true
+wants_room (Call.end session binding) = true
+wants_room call = false
+
+-- The pass took one turn, at a point of the one history that begins with all that it had seen, and there the hub of one
+-- thread answers so; or there was no room, and the turn made no entry.
+abbrev pub AnswersAt : SharedHub → Knowledge → Call → ℕ → Option Reply → Knowledge → Type 0
+AnswersAt hub old call at None new =
+    SharedServes (config_of hub) old call at None new ⊎ ((wants_room call ≡ true) × LooksOnce old new)
+AnswersAt hub old call at (Some reply) new = SharedServes (config_of hub) old call at (Some reply) new
+
+-- From what the pass knew, each call was answered so, one behind the other, or found that no ticket was left; and then it
+-- knows `last`.
+unfoldable pub Answered : SharedHub → Knowledge → List Step → Knowledge → Type 0
+Answered hub known [] last = last ≡ known
+Answered hub known (Called call at reply ∷ steps) last =
+    (next : Knowledge) × AnswersAt hub known call at reply next × Answered hub next steps last
+Answered hub known (Spent call at ∷ steps) last =
+    (next : Knowledge) × (s : spent.Spent) × IsSpent hub known s next × Answered hub next steps last
+Answered hub known (Exchanged address ask came ∷ steps) last = Answered hub known steps last
+Answered hub known (Paused ms ∷ steps) last = Answered hub known steps last
+
+-- how many of the steps found the hub spent
+abbrev pub spent_looks : List Step → ℕ
+spent_looks [] = 0
+spent_looks (Called call at reply ∷ steps) = spent_looks steps
+spent_looks (Spent call at ∷ steps) = spent_looks steps + 1
+spent_looks (Exchanged address ask came ∷ steps) = spent_looks steps
+spent_looks (Paused ms ∷ steps) = spent_looks steps
+
+-- what a pass knows, its nodes, the last moment of its clock, and the clock's pauses where they are told
+pub record World (N : Type 0) : Type 0 where
+  pub view : Knowledge
+  pub nodes : N
+  pub moment : ℕ
+  pub pauses : Option Pauses
+
+abbrev pub world_of : {N : Type 0} → Knowledge → N → ℕ → Option Pauses → World N
+world_of view nodes moment pauses =
+    record { view = view; nodes = nodes; moment = moment; pauses = pauses }
+
+-- The steps lead from the one world to the other: their calls are all that the pass did, their exchanges all that the nodes
+-- were asked, and their pauses all for which the clock was.
+pub record Went {N : Type 0} (hub : SharedHub) (gives : N → List ℕ → Ask → Came → N → Type 0)
+    (old : World N) (steps : List Step) (new : World N) : Type 0 where
+  pub answered : Answered hub old.view steps new.view
+  pub asked : Exchanges gives old.nodes steps new.nodes
+  pub timed : Timed old.moment steps new.moment
+  pub told : IfSome old.pauses (λ pauses. (new.pauses ≡ Some (pauses_after pauses steps))
+      × Still old.moment steps new.moment)

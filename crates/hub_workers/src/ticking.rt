@@ -1,0 +1,204 @@
+//! Tickers, which let go what is over by its time.
+ghost use Rattle.std.specs.Prelude.{◌≡◌, ◌≢◌, ℕ, not};
+ghost use Rattle.hub_cell.specs.Passes.{IsOf, knows};
+ghost use Rattle.hub_cell.specs.Shared.{HasClosing};
+ghost use Rattle.node_client.specs.Steps.{lacked};
+ghost use Rattle.hub_workers.specs.Turns.{AfterSweep, AfterSweepSpent, AsksOnce, Finishes, Looked, LookedAll, OneTurn, TickerSpent, TickerTurn, WentBy, Worked, spent_after};
+ghost use Rattle.hub_workers.specs.World.{world_of};
+
+use crate::ends::WorkerEnd;
+use grid_outside::{Clock, ExchangeFault, NodeLink, Reply};
+use grid_types::Spent;
+use hub_cell::{CellFault, Pass, SharedHub};
+use hub_core::{Closing, Expiring};
+use node_client::{SessionPath, quit_request};
+use std::alloc::Global;
+use std::sync::Wait;
+
+/// The milliseconds that a ticker pauses at the end of each turn.
+const PAUSE_MS: u64 = 1_000;
+
+/// What a look for an idle session came to.
+#[derive(Clone, Copy, Debug)]
+pub enum Idle {
+    /// One was ended.
+    Ended,
+    /// There is none.
+    Over,
+    /// Want of memory, for the call or for the request to the node.
+    Lacks,
+    Spent(Spent),
+}
+
+fn was_sent(came: &Result<Reply, ExchangeFault>) -> bool
+    ensures { result ≡ not (lacked came.now) }
+{
+    match came {
+        Err(ExchangeFault::Memory) => false,
+        Err(ExchangeFault::Unreachable) => true,
+        Ok(_) => true,
+    }
+}
+
+/// Asks the node of the closing to end its session, where that is called for. False is want of
+/// memory: it was not asked.
+fn ask_to_end<N: NodeLink>(alloc: Global, closing: &Closing, nodes: &mut N) -> bool
+    ensures { AsksOnce N.gives closing.now nodes.old result nodes.new }
+{
+    if closing.quit() {
+        let path = SessionPath::of(&closing.session());
+        let came = nodes.exchange(alloc, &closing.address(), &quit_request(path.as_bytes()));
+        return was_sent(&came);
+    }
+    true
+}
+
+/// Has the session of the closing ended at its node, and frees its slot.
+fn finish<R: Wait, N: NodeLink, C: Clock>(
+    rt: &R,
+    alloc: Global,
+    hub: &SharedHub,
+    pass: &mut Pass,
+    closing: Closing,
+    nodes: &mut N,
+    clock: &mut C,
+) -> Idle
+    requires own { IsOf hub.now pass.old }
+    requires has { HasClosing (knows pass.old) closing }
+    ensures own { IsOf hub.now pass.new }
+    ensures finishes { WentBy hub.now N.gives (Finishes closing result)
+        (world_of (knows pass.old) nodes.old (C.moment clock.old) (C.pauses clock.old))
+        (world_of (knows pass.new) nodes.new (C.moment clock.new) (C.pauses clock.new)) }
+{
+    let sent = ask_to_end(alloc, &closing, nodes);
+    let _now = clock.now();
+    match hub.freed(rt, pass, closing) {
+        Ok(()) if sent => Idle::Ended,
+        Ok(()) => Idle::Lacks,
+        Err(stopped) => Idle::Spent(stopped.spent),
+    }
+}
+
+/// Ends one idle session, if there is one.
+fn end_idle<R: Wait, N: NodeLink, C: Clock>(
+    rt: &R,
+    alloc: Global,
+    hub: &SharedHub,
+    pass: &mut Pass,
+    nodes: &mut N,
+    clock: &mut C,
+) -> Idle
+    requires { IsOf hub.now pass.old }
+    ensures own { IsOf hub.now pass.new }
+    ensures looked { WentBy hub.now N.gives (Looked result)
+        (world_of (knows pass.old) nodes.old (C.moment clock.old) (C.pauses clock.old))
+        (world_of (knows pass.new) nodes.new (C.moment clock.new) (C.pauses clock.new)) }
+{
+    let at = clock.now();
+    match hub.expire(rt, pass, at) {
+        Ok(Expiring::Expired(closing)) => finish(rt, alloc, hub, pass, closing, nodes, clock),
+        Ok(Expiring::Nothing) => Idle::Over,
+        Err(CellFault::Memory) => Idle::Lacks,
+        Err(CellFault::Spent(spent)) => Idle::Spent(spent),
+    }
+}
+
+/// Ends the idle sessions one after the other. The answer is why it stops.
+fn end_all_idle<R: Wait, N: NodeLink, C: Clock>(
+    rt: &R,
+    alloc: Global,
+    hub: &SharedHub,
+    pass: &mut Pass,
+    nodes: &mut N,
+    clock: &mut C,
+) -> Idle
+    requires { IsOf hub.now pass.old }
+    ensures own { IsOf hub.now pass.new }
+    ensures last { result ≢ Idle.Ended }
+    ensures looked { WentBy hub.now N.gives (LookedAll result)
+        (world_of (knows pass.old) nodes.old (C.moment clock.old) (C.pauses clock.old))
+        (world_of (knows pass.new) nodes.new (C.moment clock.new) (C.pauses clock.new)) }
+{
+    for _ in rt.forever() {
+        match end_idle(rt, alloc, hub, pass, nodes, clock) {
+            Idle::Ended => {}
+            last => return last,
+        }
+    }
+    unreachable!()
+}
+
+/// One turn. Some says that the hub is spent.
+fn tick_once<R: Wait, N: NodeLink, C: Clock>(
+    rt: &R,
+    alloc: Global,
+    hub: &SharedHub,
+    pass: &mut Pass,
+    nodes: &mut N,
+    clock: &mut C,
+) -> Option<Spent>
+    requires { IsOf hub.now pass.old }
+    ensures own { IsOf hub.now pass.new }
+    ensures turned { OneTurn hub.now N.gives TickerTurn TickerSpent
+        (world_of (knows pass.old) nodes.old (C.moment clock.old) (C.pauses clock.old)) result
+        (world_of (knows pass.new) nodes.new (C.moment clock.new) (C.pauses clock.new)) }
+{
+    let at = clock.now();
+    match hub.sweep(rt, pass, at) {
+        Ok(_) => end_then_pause(rt, alloc, hub, pass, nodes, clock),
+        Err(CellFault::Memory) => None,
+        Err(CellFault::Spent(spent)) => Some(spent),
+    }
+}
+
+/// What is left of a turn after its sweep.
+fn end_then_pause<R: Wait, N: NodeLink, C: Clock>(
+    rt: &R,
+    alloc: Global,
+    hub: &SharedHub,
+    pass: &mut Pass,
+    nodes: &mut N,
+    clock: &mut C,
+) -> Option<Spent>
+    requires { IsOf hub.now pass.old }
+    ensures own { IsOf hub.now pass.new }
+    ensures turned { OneTurn hub.now N.gives AfterSweep AfterSweepSpent
+        (world_of (knows pass.old) nodes.old (C.moment clock.old) (C.pauses clock.old)) result
+        (world_of (knows pass.new) nodes.new (C.moment clock.new) (C.pauses clock.new)) }
+{
+    match end_all_idle(rt, alloc, hub, pass, nodes, clock) {
+        Idle::Over => {
+            clock.pause(PAUSE_MS);
+            None
+        }
+        Idle::Lacks => None,
+        Idle::Spent(spent) => Some(spent),
+        Idle::Ended => unreachable!(),
+    }
+}
+
+/// Makes so many turns: each sweeps, ends the sessions that were idle for too long, and pauses for
+/// a second. Want of memory ends a turn early, without its pause.
+pub fn ticker<R: Wait, N: NodeLink, C: Clock>(
+    rt: &R,
+    alloc: Global,
+    hub: &SharedHub,
+    pass: &mut Pass,
+    nodes: &mut N,
+    clock: &mut C,
+    turns: u64,
+) -> WorkerEnd
+    requires { IsOf hub.now pass.old }
+    ensures own { IsOf hub.now pass.new }
+    ensures worked { Worked hub.now N.gives TickerTurn TickerSpent turns
+        (world_of (knows pass.old) nodes.old (C.moment clock.old) (C.pauses clock.old)) result
+        (world_of (knows pass.new) nodes.new (C.moment clock.new) (C.pauses clock.new)) }
+    ensures spent { (knows pass.new).spent ≡ spent_after (knows pass.old).spent result }
+{
+    for _ in 0..turns {
+        if let Some(spent) = tick_once(rt, alloc, hub, pass, nodes, clock) {
+            return WorkerEnd::Spent(spent);
+        }
+    }
+    WorkerEnd::TurnsDone
+}
