@@ -1,6 +1,6 @@
-use crate::{LoopList, LoopNode, LoopNodes, serve_node};
-use grid_outside::{ExchangeFault, MemLink, MemSink, MemSource, NodeLink, Reply};
-use grid_types::{Bytes, NoMemory, NodeAddress, Text};
+use crate::{LoopNode, serve_node};
+use grid_outside::{MemLink, MemSink, MemSource};
+use grid_types::{Bytes, NoMemory, Text};
 use http_frames::NodeRequest;
 use std::alloc::Global;
 use std::test::Fail;
@@ -162,27 +162,6 @@ fn a_node_answers_each_kind_of_request(rt: HostRuntime) -> Result<(), Fail> {
         let reply = node.answer(alloc, &request(method, target, body))?;
         assert_eq!(rt; reply.status, *status);
         assert_eq!(rt; reply.body.as_bytes(), expected.as_bytes());
-    }
-    Ok(())
-}
-
-#[test]
-fn nodes_are_reached_by_their_numbers(rt: HostRuntime) -> Result<(), Fail> {
-    let alloc = rt.alloc();
-    let mut list = LoopList::new(alloc);
-    assert!(rt; list.push(node(alloc)?).is_ok());
-    let mut nodes = LoopNodes::new(alloc, list);
-    let asked = request("GET", "/status", "");
-    for (address, found) in [
-        ("loop:2", true),
-        ("loop:02", false),
-        ("loop:1", false),
-        ("x:2", false),
-    ] {
-        let address = NodeAddress::from_bytes(address.as_bytes()).ok_or("an address")?;
-        let came = nodes.exchange(alloc, &address, &asked);
-        assert_eq!(rt; matches!(came, Ok(Reply::Http(_))), found);
-        assert_eq!(rt; matches!(came, Err(ExchangeFault::Unreachable)), !found);
     }
     Ok(())
 }
