@@ -12,3 +12,4 @@ mod MoveLemmas
 mod WantLemmas
 mod StartLemmas
 mod RouteLemmas
+mod SpentLemmas

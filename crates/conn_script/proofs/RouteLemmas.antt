@@ -6,6 +6,7 @@ use Rattle.grid_types.specs.declared.text.NoMemory.{NoMemory}
 use Rattle.grid_types.specs.declared.capabilities.Cap.{Cap}
 use Rattle.grid_types.specs.declared.capabilities.Registration.{Registration}
 use Rattle.grid_types.specs.Names.{is_session_name}
+use Rattle.grid_types.specs.Permitted.{is_well_sized}
 use Rattle.grid_types.specs.Calls.{Call, Reply}
 use Rattle.caps_merge.specs.declared.fault.CapsFault.{CapsFault}
 use Rattle.caps_merge.specs.declared.registering.fault.RegFault.{RegFault}
@@ -39,7 +40,7 @@ use Rattle.conn_script.specs.Relay.{Relay, RelayLacks, relayed}
 use Rattle.conn_script.specs.NewSession as starting
 use Rattle.conn_script.specs.NewSession.{NewSession, EnqueueLacks}
 use Rattle.conn_script.specs.Script.{Script, Lacks, ByRoute, StepLacks, body_of, route, before_all, at_step}
-use Rattle.conn_script.specs.Wanted.{Wanted, to_call, call_of, kind_of}
+use Rattle.conn_script.specs.Wanted.{Wanted, to_call, call_of, is_rightful, kind_of}
 use Rattle.conn_script.specs.Calling.{kind_asked, respond_of}
 use Rattle.conn_script.specs.Creating.{no_start}
 use Rattle.conn_script.specs.Turns.{Turns, Completes, Stops, responded}
@@ -55,12 +56,12 @@ goes : (f : Request) (C : Completes) (S : Stops) (close : Bool) (r : Run) (w : W
 goes f C S close r w wants leads stops = ((no_start, w, wants, refl, leads, stops), refl)
 
 call_first : (f : Request) (C : Completes) (S : Stops) (close : Bool) (call : HubCall) (a : Asked) →
-    kind_of (call_of call) ≡ kind_asked a → gives_up (call_of call) ≡ false →
+    kind_of (call_of call) ≡ kind_asked a → gives_up (call_of call) ≡ false → is_rightful (call_of call) ≡ true →
     ((more : List Step) (response : Response) → OneCall (call_of call) (respond_of a) more response → C more response) →
     ((more : List Step) → CallLacks (call_of call) more → S more) →
     Turns (RunsOn f) C S [] close (turn.Go (run.Calling (calling.Ask call a)) false)
-call_first f C S close call a kind keeps leads stops =
-    goes f C S close (run.Calling (calling.Ask call a)) (to_call (call_of call)) (refl, (refl, kind, keeps)) leads stops
+call_first f C S close call a kind keeps right leads stops =
+    goes f C S close (run.Calling (calling.Ask call a)) (to_call (call_of call)) (refl, (refl, kind, keeps, right)) leads stops
 
 -- ---- a node of a number
 
@@ -82,6 +83,15 @@ node_keeps asked.Clear n = refl
 node_keeps asked.Status n = refl
 node_keeps asked.Queue n = refl
 
+node_right : (a : Asked) (n : ℕ) → is_rightful (node_call a n) ≡ true
+node_right asked.Remove n = refl
+node_right asked.Drain n = refl
+node_right asked.Beat n = refl
+node_right asked.Register n = refl
+node_right asked.Clear n = refl
+node_right asked.Status n = refl
+node_right asked.Queue n = refl
+
 node_respond : (a : Asked) → IsNodeAsked a → respond_of a ≡ node_response
 node_respond asked.Remove h = refl
 node_respond asked.Drain h = refl
@@ -95,7 +105,7 @@ pub node_asked : (a : Asked) (id : List ℕ) (n : ℕ) (call : HubCall) (close :
     call_of call ≡ node_call a n → AsksNode a id (turn.Go (run.Calling (calling.Ask call a)) false) close
 node_asked a id n call close h small is same f =
     call_first f (NodeCall (node_call a) id) (OrNone (NodeCallLacks (node_call a) id)) close call a
-    (ap kind_of same ∙ node_kind a n h) (ap gives_up same ∙ node_keeps a n)
+    (ap kind_of same ∙ node_kind a n h) (ap gives_up same ∙ node_keeps a n) (ap is_rightful same ∙ node_right a n)
     (λ more response p. asks_node n (small, is)
     (subst (λ (c : Call). OneCall c node_response more response) same
     (subst (λ (respond : Reply → Option Response). OneCall (call_of call) respond more response) (node_respond a h) p)))
@@ -108,10 +118,10 @@ no_node_asked a id close r h built f =
 
 -- ---- a registration
 
-pub register_asked : (body : List ℕ) (node : Registration) (close : Bool) → RegistrationGives body (Ok node) →
+pub register_asked : (body : List ℕ) (node : Registration) (close : Bool) → RegistrationGives body (Ok node) → is_well_sized node ≡ true →
     AsksToRegister body (turn.Go (run.Calling (calling.Ask (calls.Register node) asked.Register)) false) close
-register_asked body node close gives f =
-    call_first f (Registers body) (OrNone (RegisterLacks body)) close (calls.Register node) asked.Register refl refl
+register_asked body node close gives sized f =
+    call_first f (Registers body) (OrNone (RegisterLacks body)) close (calls.Register node) asked.Register refl refl sized
     (λ more response p. asks_hub node gives p) (λ more p. at more (node, gives, p))
 
 pub register_refused : (body : List ℕ) (fault : RegFault) (close : Bool) (r : Result (List ℕ) NoMemory) → RegistrationGives body (Err fault) →
@@ -213,13 +223,13 @@ whole_of whole f parts = parts.body_is
 
 -- a call that the path alone decides
 pub path_asked : (f : Request) (r : Result Route RouteFault) (call : HubCall) (a : Asked) (close : Bool) → route f ≡ r →
-    kind_of (call_of call) ≡ kind_asked a → gives_up (call_of call) ≡ false →
+    kind_of (call_of call) ≡ kind_asked a → gives_up (call_of call) ≡ false → is_rightful (call_of call) ≡ true →
     ((steps : List Step) (response : Response) → OneCall (call_of call) (respond_of a) steps response → ByRoute r f steps response) →
     ((steps : List Step) → CallLacks (call_of call) steps → StepLacks r f steps) →
     FirstTurn f (turn.Go (run.Calling (calling.Ask call a)) false) close
-path_asked f r call a close is kind keeps on off =
+path_asked f r call a close is kind keeps right on off =
     by_route f r (OneCall (call_of call) (respond_of a)) (CallLacks (call_of call)) close (turn.Go (run.Calling (calling.Ask call a)) false) is on off
-    (call_first f (OneCall (call_of call) (respond_of a)) (OrNone (CallLacks (call_of call))) close call a kind keeps (λ more response p. p) (λ more p. at more p))
+    (call_first f (OneCall (call_of call) (respond_of a)) (OrNone (CallLacks (call_of call))) close call a kind keeps right (λ more response p. p) (λ more p. at more p))
 
 -- no route
 pub none_asked : (f : Request) (e : RouteFault) (close : Bool) (r : Result (List ℕ) NoMemory) (status : ℕ) (body : List ℕ) → route f ≡ Err e →

@@ -18,3 +18,4 @@ pub mod Running
 pub mod Asking
 pub mod Moving
 pub mod Routing
+pub mod SpentLooks

@@ -16,7 +16,7 @@ use Rattle.conn_script.specs.declared.turn.Run.TheVariants as run
 use Rattle.conn_script.specs.declared.wants.HubCall.{HubCall}
 use Rattle.conn_script.specs.Responses.{Response, created, hub_spent, bytes_of, is_last, spent_text}
 use Rattle.conn_script.specs.OneCall.{OneCall, CallLacks}
-use Rattle.conn_script.specs.Wanted.{Wanted, to_call, Kind, kind_of, call_of, call_tokens, Awaited, answer_to, came, pause_end, nothing}
+use Rattle.conn_script.specs.Wanted.{Wanted, to_call, Kind, kind_of, call_of, is_rightful, call_tokens, Awaited, answer_to, came, pause_end, nothing}
 use Rattle.conn_script.specs.Turns.{Completes, Stops}
 use Rattle.conn_script.specs.Calling.{kind_asked, respond_of}
 use Rattle.conn_script.specs.Deleting.{DeleteWants, DeleteFollows, DeleteStops}
@@ -35,8 +35,11 @@ use Rattle.conn_script.specs.Creating.{Aim, no_start, aim_steps, kind_in, kind_i
 -- ---- one call
 
 abbrev pub CallWants : Calling → Wanted → Type 0
-CallWants (calling.Ask call asked) w = (w ≡ to_call (call_of call)) × (kind_of (call_of call) ≡ kind_asked asked) × (gives_up (call_of call) ≡ false)
-CallWants (calling.Asked asked) w = (call : Call) × (w ≡ to_call call) × (kind_of call ≡ kind_asked asked) × (gives_up call ≡ false)
+CallWants (calling.Ask call asked) w =
+    (w ≡ to_call (call_of call)) × (kind_of (call_of call) ≡ kind_asked asked) × (gives_up (call_of call) ≡ false)
+    × (is_rightful (call_of call) ≡ true)
+CallWants (calling.Asked asked) w =
+    (call : Call) × (w ≡ to_call call) × (kind_of call ≡ kind_asked asked) × (gives_up call ≡ false) × (is_rightful call ≡ true)
 
 abbrev pub AskedFollows : Calling → Wanted → List Step → Response → Type 0
 AskedFollows (calling.Ask call asked) w more response = OneCall (call_of call) (respond_of asked) more response

@@ -1,5 +1,6 @@
 -- Wants and answers as plain data, and what an answer adds to the bytes, the steps and the bytes written.
 use Rattle.std.specs.Prelude.{◌≡◌, ℕ, ◌≤◌, Bool, true, false, List, [], ◌∷◌, ◌++◌, length, take, Option, None, Some, Result}
+use Rattle.grid_types.specs.Permitted.{is_well_sized, is_start_failure}
 use Rattle.grid_types.specs.Calls.{Call, Reply}
 use Rattle.hub_core.specs.declared.answers.Enqueued.{Enqueued}
 use Rattle.hub_core.specs.declared.answers.Enqueued.TheVariants as enqueued
@@ -42,6 +43,12 @@ call_of (calls.End session binding) = Call.end session binding
 call_of (calls.Freed c) = Call.freed c
 call_of calls.Clear = Call.clear
 call_of calls.View = Call.view
+
+-- what a call brings beside tokens is as the hub asks it: a registration is well sized, and a start fails for a cause of its own
+abbrev pub is_rightful : Call → Bool
+is_rightful (Call.register node) = is_well_sized node
+is_rightful (Call.fail r why) = is_start_failure why
+is_rightful call = true
 
 -- which call an answer belongs to
 pub data Kind : Type 0 where

@@ -5,6 +5,7 @@
 mod calling;
 mod creating;
 mod deleting;
+mod laws;
 mod messages;
 mod relaying;
 mod request;
@@ -18,6 +19,7 @@ mod wants;
 pub use calling::{Asked, Calling};
 pub use creating::Creating;
 pub use deleting::{Deleting, Quitted};
+pub use laws::scripts_find_spent_last;
 pub use relaying::Relaying;
 pub use request::Whole;
 pub use responses::refusal;

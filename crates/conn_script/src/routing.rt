@@ -19,7 +19,7 @@ use crate::responses::{
 };
 use crate::turn::{Run, Turn, respond};
 use crate::wants::HubCall;
-use caps_merge::{CapsFault, RegFault, process, registration};
+use caps_merge::{CapsFault, RegFault, process, registration, registrations_are_well_sized};
 use grid_types::{Bytes, NodeNo, SessionId};
 use router_core::{RouteFault, Routed, Router, node_number};
 use std::alloc::Global;
@@ -77,6 +77,7 @@ fn register(alloc: Global, body: &[u8], close: bool) -> Turn
     ensures turns { AsksToRegister body.now result close }
     ensures ready { IsReady result [] }
 {
+    registrations_are_well_sized();
     match registration(alloc, body) {
         Ok(node) => ask(HubCall::Register(node), Asked::Register),
         Err(fault) => registration_refused(alloc, &fault, close),

@@ -9,3 +9,5 @@ mod TalkLemmas
 mod FeedLemmas
 mod LookLemmas
 mod AwaitLemmas
+mod CallLemmas
+mod SpentLemmas

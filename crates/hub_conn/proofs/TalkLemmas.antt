@@ -1,7 +1,7 @@
 -- What a connection says in each state, and what each answer does.
 use Rattle.std.proofs.Common.{◌≡◌, ℕ, ◌-◌, ◌<◌, min, Bool, true, false, List, [], ◌++◌, length, drop, refl, sym, ap, ◌∙◌, subst, arith, append-nil, length-drop, inl, inr}
 use Rattle.std.specs.Borrow.{Bor}
-use Rattle.std.specs.Prelude.{Option, Result}
+use Rattle.std.specs.Prelude.{Option, Result, Err}
 use Rattle.std.proofs.lemmas.Bool.{cases_lt}
 use Rattle.http_frames.specs.declared.frames.TheConstants.{LIMITS}
 use Rattle.http_frames.specs.declared.frames.FrameLimits.{FrameLimits}
@@ -30,7 +30,7 @@ use Rattle.hub_conn.specs.declared.talk.State.TheVariants as states
 use Rattle.hub_conn.specs.declared.talk.Outgoing.{Outgoing}
 use Rattle.hub_conn.specs.Conversation.{MemoryBroke, before_request, Waits, none as none_yet}
 use Rattle.hub_conn.specs.Inbox.{Holds, HoldsWhole}
-use Rattle.hub_conn.specs.Talk.{Rests, Answered, Standing, awaited, state_awaits, held, state_held, tokens, state_tokens, HandsOut, Says, Takes, IsHeld, IsNew, Settles, of_nothing}
+use Rattle.hub_conn.specs.Talk.{Rests, Answered, Standing, awaited, state_awaits, held, state_held, tokens, state_tokens, Cause, result_cause, blamed, state_cause, HandsOut, Says, Takes, IsHeld, IsNew, Settles, of_nothing}
 use Rattle.hub_conn.proofs.ReadLemmas.{WholeTakes, reads_begins}
 use Rattle.hub_conn.proofs.StateLemmas.{stands_in, in_state_of, counts_kept, settles_in}
 use Rattle.conn_script.specs.Creating.{no_start}
@@ -50,6 +50,10 @@ held_in talk s k e x = ap state_held e ∙ x
 tokens_in : (talk : Talk) (s : State) (ts : List Token) → talk.state ≡ s → state_tokens s ≡ ts → tokens talk ≡ ts
 unfolding tokens
 tokens_in talk s ts e x = ap state_tokens e ∙ x
+
+blamed_in : (talk : Talk) (s : State) (cause : Cause) → talk.state ≡ s → state_cause s ≡ cause → blamed talk ≡ cause
+unfolding blamed
+blamed_in talk s cause e x = ap state_cause e ∙ x
 
 says_as : (v w : Wanted) (own : Option (List ℕ)) (bytes : List ℕ) (steps : List Step) (written : List ℕ) → w ≡ v → Says v own bytes steps written → Says w own bytes steps written
 says_as v w own bytes steps written e x = subst (λ (z : Wanted). Says z own bytes steps written) (sym e) x
@@ -75,6 +79,7 @@ hands_read takes none talk most e most_is = record {
         );
       };
   no_tokens = λ o. absurd o;
+  blames = λ result e. absurd cc;
 }
 
 pub hands_continue : (talk : Talk) (sent : ℕ) (text : Bor (List ℕ)) → talk.state ≡ states.Continuing sent → text.now ≡ drop sent (continue_text true) → sent < 25 → HandsOut talk (wants.Write text)
@@ -88,6 +93,7 @@ hands_continue talk sent text e text_is few = record {
         says = says_as (to_write text.now) w own bytes steps written w_is (omega (arith, ap length text_is, length-drop sent (continue_text true), few));
       };
   no_tokens = λ o. absurd o;
+  blames = λ result e. absurd cc;
 }
 
 pub hands_write : (talk : Talk) (out : Outgoing) (text : Bor (List ℕ)) → talk.state ≡ states.Writing out → text.now ≡ drop out.sent out.bytes → HandsOut talk (wants.Write text)
@@ -100,6 +106,7 @@ hands_write talk out text e text_is = record {
         says = says_as (to_write text.now) w own bytes steps written w_is (omega (arith, ap length text_is, ap length x.unsent_is, x.some));
       };
   no_tokens = λ o. absurd o;
+  blames = λ result e. absurd cc;
 }
 
 -- want of memory in what goes before a request
@@ -130,6 +137,7 @@ hands_begin talk e = record {
         says = says_as to_begin w own bytes steps written w_is (λ lacking lacks. begin_broke talk own w bytes steps written x lacking lacks);
       };
   no_tokens = λ o. absurd o;
+  blames = λ result e. absurd cc;
 }
 
 no_end : (want : Want) → IsScriptWant want → IsOver want → ⊥
@@ -170,6 +178,7 @@ hands_run talk run whole want e asks of = record {
         says = says_nothing want w own bytes steps written shows asks.of_script;
       };
   no_tokens = λ o. absurd (no_end want asks.of_script o);
+  blames = λ result end. absurd (subst IsScriptWant end asks.of_script);
 }
   where
     readies_in : (want : Want) → Readies want (run_awaits run) (run_held run) → Readies want (awaited talk) (held talk)
@@ -188,6 +197,7 @@ hands_undo talk fault u want e asks = record {
         says = says_nothing want w own bytes steps written shows asks.of_script;
       };
   no_tokens = λ o. absurd (no_end want asks.of_script o);
+  blames = λ result end. absurd (subst IsScriptWant end asks.of_script);
 }
 
 pub hands_done : (talk : Talk) (result : Result Served ConnFault) → talk.state ≡ states.Done result → HandsOut talk (wants.Done result)
@@ -199,6 +209,7 @@ hands_done talk result e = record {
         says = says_as (over result) w own bytes steps written x.0 x.1;
       };
   no_tokens = λ o. tokens_in talk (states.Done result) [] e refl;
+  blames = λ r same. let is : result ≡ r = cc in ap result_cause (sym is) ∙ sym (blamed_in talk (states.Done result) (result_cause result) e refl);
 }
 
 -- ---- calls that are handed out
@@ -210,6 +221,7 @@ takes_run old new r s call e taken at rests = record {
       awaits_in new (states.Running s) (answer_to (kind_of (call_of call))) at (taken.waits x.in_state.0 x.aim w x.in_state.2.wants);
   keeps = tokens_in old (states.Running r) (run_tokens r) e refl ∙ taken.keeps
       ∙ ap (λ (ts : List Token). call_tokens (call_of call) ++ ts) (sym (tokens_in new (states.Running s) (run_tokens s) at refl));
+  blames = blamed_in new (states.Running s) of_nothing at refl ∙ sym (blamed_in old (states.Running r) of_nothing e refl);
   stands = λ own w bytes steps written st.
       let x = in_state_of old (states.Running r) own w bytes steps written e st in
       let f = x.in_state.0 in
@@ -254,6 +266,7 @@ takes_undo old new fault u v call e taken at = record {
   waits = λ own w bytes steps written st. awaits_in new (states.Undoing fault v) (answer_to (kind_of (call_of call))) at taken.waits;
   keeps = tokens_in old (states.Undoing fault u) (undo_tokens u) e refl ∙ taken.keeps
       ∙ ap (λ (ts : List Token). call_tokens (call_of call) ++ ts) (sym (tokens_in new (states.Undoing fault v) (undo_tokens v) at refl));
+  blames = blamed_in new (states.Undoing fault v) (result_cause (Err fault)) at refl ∙ sym (blamed_in old (states.Undoing fault u) (result_cause (Err fault)) e refl);
   stands = λ own w bytes steps written st.
       let x = in_state_of old (states.Undoing fault u) own w bytes steps written e st in
       let next = taken.wants w x.wants in (

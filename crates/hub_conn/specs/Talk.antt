@@ -8,6 +8,7 @@ use Rattle.node_client.specs.Held.{Token}
 use Rattle.node_client.specs.Steps.{Step, met_want}
 use Rattle.grid_types.specs.declared.capabilities.Cap.{Cap}
 use Rattle.conn_script.specs.declared.wants.Want.{Want}
+use Rattle.conn_script.specs.declared.wants.Want.TheVariants as wants
 use Rattle.conn_script.specs.declared.wants.HubCall.{HubCall}
 use Rattle.conn_script.specs.declared.wants.Answer.{Answer}
 use Rattle.conn_script.specs.declared.wants.Answer.TheVariants as told
@@ -268,12 +269,14 @@ pub record HandsOut (talk : Talk) (want : Want) : Type 0 where
   pub tells : (own : Option (List ℕ)) (w : Wanted) (bytes : List ℕ) (steps : List Step) (written : List ℕ) →
       Stands talk own w bytes steps written → Tells want own w bytes steps written
   pub no_tokens : IsOver want → tokens talk ≡ []
+  pub blames : (result : Result Served ConnFault) → want ≡ wants.Done result → result_cause result ≡ blamed talk
 
 -- a call is handed out, with its tokens; the value stands for the same, and awaits the answer
 pub record Takes (old : Talk) (call : HubCall) (new : Talk) : Type 0 where
   pub waits : (own : Option (List ℕ)) (w : Wanted) (bytes : List ℕ) (steps : List Step) (written : List ℕ) → Stands old own w bytes steps written →
       awaited new ≡ answer_to (kind_of (call_of call))
   pub keeps : tokens old ≡ wanted_tokens (to_call (call_of call)) ++ tokens new
+  pub blames : blamed new ≡ blamed old
   pub stands : (own : Option (List ℕ)) (w : Wanted) (bytes : List ℕ) (steps : List Step) (written : List ℕ) →
       Stands old own w bytes steps written → (w ≡ to_call (call_of call)) × Stands new own w bytes steps written
 

@@ -1,13 +1,14 @@
 -- What holds of a start wherever it stands.
-use Rattle.std.proofs.Common.{◌≡◌, true, refl, sym, subst, List}
+use Rattle.std.proofs.Common.{◌≡◌, ◌≤◌, true, refl, sym, subst, List, length, arith}
 use Rattle.std.specs.Prelude.{Some}
 use Rattle.grid_types.specs.Tokens.{Reservation}
 use Rattle.node_client.specs.declared.carry.Carry.{Carry}
 use Rattle.node_client.specs.declared.carry.State.{State}
 use Rattle.node_client.specs.declared.carry.State.TheVariants as states
+use Rattle.node_client.specs.Held.{tokens_in, carry_tokens}
 use Rattle.node_client.specs.Steps.{Step}
 use Rattle.node_client.specs.Places.{Place, at_start, at_bind, at_return, at_fail, at_quit, at_free, Wanted, IsAsk, IsBind, IsFail, IsFreed, Leads, wanted_at}
-use Rattle.node_client.specs.Carrying.{Kind, Exchange, Bind, Fail, Freed, Stands, IsIn, awaited, held, is_fresh, awaited_in, held_in, is_fresh_in}
+use Rattle.node_client.specs.Carrying.{Kind, Exchange, Bind, Fail, Freed, Stands, FailsRightly, IsIn, awaited, held, is_fresh, awaited_in, held_in, is_fresh_in}
 
 -- a call of it that is there to be taken leaves it free to be asked what it wants
 pub held_is_fresh : (carry : Carry) (kind : Kind) → held carry ≡ Some kind → is_fresh carry ≡ true
@@ -108,9 +109,33 @@ pub stands_leads : (carry : Carry) (r : Reservation) (place : Place) (steps : Li
 unfolding Stands
 stands_leads carry r place steps stands = stands.1.leads
 
+-- it is given up for a cause of its own only
+pub fails_rightly : (carry : Carry) (r : Reservation) (place : Place) (steps : List Step) →
+    Stands carry r place steps → FailsRightly place
+unfolding Stands
+fails_rightly carry r place steps stands = stands.1.cause
+
+-- it holds one token at most
+pub holds_one : (carry : Carry) → length (carry_tokens carry) ≤ 1
+unfolding carry_tokens
+holds_one carry = by_state carry.state
+  where
+    by_state : (s : State) → length (tokens_in s) ≤ 1
+    by_state (states.Asking r body) = omega arith
+    by_state (states.ToBind r session caps) = omega arith
+    by_state (states.Returning r path) = omega arith
+    by_state (states.ToFail r w) = omega arith
+    by_state (states.Quitting c path) = omega arith
+    by_state (states.ToFree c) = omega arith
+    by_state states.Binding = omega arith
+    by_state states.Failing = omega arith
+    by_state states.Freeing = omega arith
+    by_state (states.Done e) = omega arith
+
 -- The laws in one: a start whose call may be taken, or that asks a node, may be asked what it
--- wants; the call that may be taken and the answer that is awaited are those of its want; and what
--- goes on from its place completes it.
+-- wants; the call that may be taken and the answer that is awaited are those of its want; what goes
+-- on from its place completes it; it is given up for a cause of its own only; and it holds one
+-- token at most.
 pub record StandLaws : Type 0 where
   pub held_are_fresh : (carry : Carry) (kind : Kind) → held carry ≡ Some kind →
       is_fresh carry ≡ true
@@ -123,3 +148,6 @@ pub record StandLaws : Type 0 where
       Stands carry r place steps → held carry ≡ Some kind → IsOfKind kind (wanted_at r place)
   pub lead : (carry : Carry) (r : Reservation) (place : Place) (steps : List Step) →
       Stands carry r place steps → Leads r place steps
+  pub fail_rightly : (carry : Carry) (r : Reservation) (place : Place) (steps : List Step) →
+      Stands carry r place steps → FailsRightly place
+  pub hold_one : (carry : Carry) → length (carry_tokens carry) ≤ 1

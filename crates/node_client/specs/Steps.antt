@@ -1,5 +1,5 @@
 -- The steps of a connection beside reading and writing.
-use Rattle.std.specs.Prelude.{ℕ, Bool, true, false, List, Option, None, Some, Ok, Err}
+use Rattle.std.specs.Prelude.{ℕ, ◌+◌, Bool, true, false, List, [], ◌∷◌, Option, None, Some, Ok, Err}
 use Rattle.std.specs.List.{list_any}
 use Rattle.grid_types.specs.declared.entry.FailWhy.{FailWhy}
 use Rattle.grid_types.specs.declared.entry.FailWhy.TheVariants as why
@@ -61,3 +61,11 @@ step_binds (Paused ms) = false
 -- some step bound a session
 abbrev pub bound_one : List Step → Bool
 bound_one steps = list_any step_binds steps
+
+-- how many of the steps found the hub spent
+abbrev pub spent_looks : List Step → ℕ
+spent_looks [] = 0
+spent_looks (Called call at reply ∷ steps) = spent_looks steps
+spent_looks (Spent call at ∷ steps) = spent_looks steps + 1
+spent_looks (Exchanged address ask came ∷ steps) = spent_looks steps
+spent_looks (Paused ms ∷ steps) = spent_looks steps

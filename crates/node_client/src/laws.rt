@@ -19,8 +19,9 @@ pub fn starts_spend_all()
     ensures { StartsSpendAll }
 {}
 
-/// What a start waits for, and the call that may be taken of it, are those of its want; and
-/// whatever goes on from there completes it.
+/// What a start waits for, and the call that may be taken of it, are those of its want; whatever
+/// goes on from there completes it; it is given up for a cause of its own only; and it holds one
+/// token at most.
 pub fn starts_stand_by_their_wants()
     ensures { StandLaws }
 {}

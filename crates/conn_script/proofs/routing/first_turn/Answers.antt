@@ -18,19 +18,19 @@ pub returns-in-Ok-Status-clause-turns : goal.returns-in-Ok-Status-clause-turns
 returns-in-Ok-Status-clause-turns c = λ f parts.
     let same : c.in-Ok-Status.field-0 ≡ routed.Status = cc in
     let is = route_told_is c.args.whole f c.in-Ok-Status.field-0 (routed.Status) parts c.in-Ok-Status.ensures.ok same in
-    rw c.ask.ensures (path_asked f (Ok routes.status) calls.View asked.Status c.args.close is refl refl (λ steps response p. p) (λ steps p. p))
+    rw c.ask.ensures (path_asked f (Ok routes.status) calls.View asked.Status c.args.close is refl refl refl (λ steps response p. p) (λ steps p. p))
 
 pub returns-in-Ok-Queue-clause-turns : goal.returns-in-Ok-Queue-clause-turns
 returns-in-Ok-Queue-clause-turns c = λ f parts.
     let same : c.in-Ok-Queue.field-0 ≡ routed.Queue = cc in
     let is = route_told_is c.args.whole f c.in-Ok-Queue.field-0 (routed.Queue) parts c.in-Ok-Queue.ensures.ok same in
-    rw c.ask-in-Ok-Queue.ensures (path_asked f (Ok routes.queue) calls.View asked.Queue c.args.close is refl refl (λ steps response p. p) (λ steps p. p))
+    rw c.ask-in-Ok-Queue.ensures (path_asked f (Ok routes.queue) calls.View asked.Queue c.args.close is refl refl refl (λ steps response p. p) (λ steps p. p))
 
 pub returns-in-Ok-ClearQueue-clause-turns : goal.returns-in-Ok-ClearQueue-clause-turns
 returns-in-Ok-ClearQueue-clause-turns c = λ f parts.
     let same : c.in-Ok-ClearQueue.field-0 ≡ routed.ClearQueue = cc in
     let is = route_told_is c.args.whole f c.in-Ok-ClearQueue.field-0 (routed.ClearQueue) parts c.in-Ok-ClearQueue.ensures.ok same in
-    rw c.ask-in-Ok-ClearQueue.ensures (path_asked f (Ok routes.clear_queue) calls.Clear asked.Clear c.args.close is refl refl (λ steps response p. p) (λ steps p. p))
+    rw c.ask-in-Ok-ClearQueue.ensures (path_asked f (Ok routes.clear_queue) calls.Clear asked.Clear c.args.close is refl refl refl (λ steps response p. p) (λ steps p. p))
 
 pub returns-in-Ok-Remove-clause-turns : goal.returns-in-Ok-Remove-clause-turns
 returns-in-Ok-Remove-clause-turns c = λ f parts.

@@ -1,0 +1,21 @@
+//! What the definitions of a connection say.
+ghost use Rattle.hub_conn.specs.CallLaws.{CallLaws};
+ghost use Rattle.hub_conn.specs.SpentLaws.{SpentLaws};
+
+use conn_script::scripts_find_spent_last;
+use node_client::starts_stand_by_their_wants;
+
+/// A call that is wanted spends no token but its own, and brings what the hub asks of it; between scripts no token is held.
+pub fn calls_are_rightful()
+    ensures { CallLaws }
+{
+    starts_stand_by_their_wants();
+}
+
+/// A conversation that is over found the hub spent at its last step or not at all, and its result tells which where it is an end
+/// or a failed read.
+pub fn conversations_find_spent_last()
+    ensures { SpentLaws }
+{
+    scripts_find_spent_last();
+}
