@@ -1,6 +1,6 @@
 -- What a turn makes of the published map.
-use Rattle.std.proofs.Common.{◌≡◌, ◌∙◌, ℕ, Bool, true, false, List, [], ◌∷◌, ◌++◌, refl, sym, ap, subst, append-nil, inl, inr}
-use Rattle.std.specs.Prelude.{Option, None, Some, is_none, is_some, Result, Ok, Err, OnOk, OnErr, is_err}
+use Rattle.std.proofs.Common.{◌≡◌, ◌∙◌, ℕ, true, false, List, [], ◌++◌, sym, ap, subst, append-nil, inl, inr}
+use Rattle.std.specs.Prelude.{Option, Some, is_none, is_some, Result, Ok, Err, OnOk, OnErr, is_err}
 use Rattle.grid_types.specs.declared.config.HubConfig.{HubConfig}
 use Rattle.grid_types.specs.declared.entry.Entry.{Entry}
 use Rattle.grid_types.specs.History.{history_of}

@@ -1,4 +1,4 @@
-use Rattle.std.proofs.Common.{sym, ap, subst, ◌∙◌, ◌++◌, append-nil}
+use Rattle.std.proofs.Common.{sym, subst, ◌∙◌, append-nil}
 use Rattle.grid_types.specs.History.{history_of}
 use Rattle.hub_core.specs.CoreStands.{Stands}
 use Rattle.turn_cell.specs.Cells.{view_of, origin_of}
