@@ -33,6 +33,7 @@ call_taken call a = record {
   wants = λ f aim w p. (p.1.0, (p.0, (call_of call, p.1.0, p.1.1, p.1.2, p.1.3)));
   leads = λ f aim w more response p q. subst (λ (v : Wanted). RunFollows f (run.Calling (calling.Asked a)) aim v more response) p.1.0 q;
   stops = λ f w more q e. subst (λ (v : Wanted). RunStops f (run.Calling (calling.Asked a)) v more) e q;
+  work_is = λ o. refl;
 }
 
 -- the hub is spent

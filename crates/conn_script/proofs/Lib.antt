@@ -1,5 +1,6 @@
 mod TurnLemmas
 mod ElseLemmas
+mod WorkLemmas
 mod CallLemmas
 mod AnswerLemmas
 mod DeleteLemmas

@@ -1,5 +1,5 @@
 -- From what each answer leads to in the script of its route to what it does to the run.
-use Rattle.std.proofs.Common.{◌≡◌, ℕ, Bool, true, false, List, [], ◌∷◌, ◌++◌, refl, sym, ◌∙◌, ap, subst, append-nil, append_assoc, inr}
+use Rattle.std.proofs.Common.{◌≡◌, ℕ, ◌+◌, ◌<◌, Bool, true, false, List, [], ◌∷◌, ◌++◌, refl, sym, ◌∙◌, ap, subst, append-nil, append_assoc, inr, arith}
 use Rattle.std.specs.Prelude.{Option}
 use Rattle.http_frames.specs.Frames.{Request}
 use Rattle.grid_types.specs.Calls.{Call}
@@ -41,7 +41,9 @@ use Rattle.conn_script.specs.Relaying.{RelaysOn, FindTurns, TouchTurns, Exchange
 use Rattle.conn_script.specs.Creating.{Aim, no_start, starts, aim_steps, CreatesOn, EnqueueTurns, PollTurns, PauseTurns, StartTurns, StartMoves, StartLeads, GoesOnStarting, start_ends, start_finds_spent, AfterPause, NeverStops, want_of}
 use Rattle.conn_script.specs.Running.{RunWants, RunFollows, RunStops, RunTurns, RunsOn, run_tokens}
 use Rattle.conn_script.specs.Moving.{IsReady, Moves}
+use Rattle.conn_script.specs.Work.{rounds_work, turn_work, RunsLess, IsOverTurn, IsBelow, QueuesLess, PollsLess, StartsLess, StartAnswersLess}
 use Rattle.conn_script.proofs.ElseLemmas.{Else, spent, no_room}
+use Rattle.conn_script.proofs.WorkLemmas.{none_below, starts_less, pause_less}
 
 -- ---- tokens
 
@@ -108,30 +110,32 @@ of_want own f old a close t aim (to_pause ms) made leads wants fits made_is = ab
 of_want own f old a close t aim (over r) made leads wants fits made_is = absurd fits
 
 -- an answer of the hub
-moves : (old : Run) (a : HubAnswer) (close : Bool) (t : Turn) → IsReady t (tokens_after a (run_tokens old)) →
+moves : (old : Run) (a : HubAnswer) (close : Bool) (t : Turn) → IsReady t (tokens_after a (run_tokens old)) → RunsLess old (told.Hub a) t →
     ((f : Request) (aim : Aim) (call : Call) (at : ℕ) → RunWants f old aim (to_call call) → FitsKind a (kind_of call) → Keeps a call →
     RunTurns f (aim_steps aim) (λ more response. RunFollows f old aim (to_call call) more response) (λ more. RunStops f old (to_call call) more)
     (call_step a call at ∷ []) close t) →
     Moves old (told.Hub a) close t
-moves old a close t ready leads = record {
+moves old a close t ready less leads = record {
   fresh = ready.fresh;
   keeps = λ e. ready.holds ∙ after_kept a (run_tokens old) e;
   void = λ e. ready.holds ∙ after_spent a (run_tokens old) e;
   leads = λ own f aim w made wants fits made_is.
       of_want own f old a close t aim w made (λ call at. leads f aim call at) wants fits made_is;
+  less = less;
 }
 
 -- what came of an exchange
-moves_by_exchange : (old : Run) (came : Came) (close : Bool) (t : Turn) → IsReady t (run_tokens old) →
+moves_by_exchange : (old : Run) (came : Came) (close : Bool) (t : Turn) → IsReady t (run_tokens old) → RunsLess old (told.Node came) t →
     ((own : Option (List ℕ)) (f : Request) (aim : Aim) (w : Wanted) (made : List Step) → RunWants f old aim w → Fits (told.Node came) w →
     Made own (told.Node came) w made →
     RunTurns f (aim_steps aim) (λ more response. RunFollows f old aim w more response) (λ more. RunStops f old w more) made close t) →
     Moves old (told.Node came) close t
-moves_by_exchange old came close t ready leads = record {
+moves_by_exchange old came close t ready less leads = record {
   fresh = ready.fresh;
   keeps = λ e. ready.holds;
   void = λ e. absurd (no e);
   leads = leads;
+  less = less;
 }
   where
     no : false ≡ true → ⊥
@@ -179,35 +183,35 @@ no_aim f aim C S made close t e x = subst (λ (b : Aim). RunTurns f (aim_steps b
 same_call : (a b : Call) → to_call a ≡ to_call b → a ≡ b
 same_call a b e = cc
 
-pub call_moves : (asked : Asked) (a : HubAnswer) (close : Bool) (t : Turn) → CallTurns asked a t close → IsReady t (tokens_after a []) →
+pub call_moves : (asked : Asked) (a : HubAnswer) (close : Bool) (t : Turn) → CallTurns asked a t close → IsReady t (tokens_after a []) → IsOverTurn t →
     Moves (run.Calling (calling.Asked asked)) (told.Hub a) close t
-call_moves asked a close t turns ready =
-    moves (run.Calling (calling.Asked asked)) a close t ready (λ f aim call at wants fits keeps.
+call_moves asked a close t turns ready is_over =
+    moves (run.Calling (calling.Asked asked)) a close t ready (λ before after h. none_below t 1 is_over (omega arith) after) (λ f aim call at wants fits keeps.
     let e : wants.1.0 ≡ call = same_call wants.1.0 call (sym wants.1.1) in
     no_aim f aim (OneCall call (respond_of asked)) (CallLacks call) (call_step a call at ∷ []) close t wants.0
     (run_turns f GoesNowhere (OneCall call (respond_of asked)) (CallLacks call) (call_step a call at ∷ []) close t (λ r D U. nowhere f r D U)
     (turns call at (ap kind_of (sym e) ∙ wants.1.2) (ap gives_up (sym e) ∙ wants.1.3))))
 
-pub lookup_moves : (id : List ℕ) (a : HubAnswer) (close : Bool) (t : Turn) → LookupTurns id a t close → IsReady t (tokens_after a []) →
+pub lookup_moves : (id : List ℕ) (a : HubAnswer) (close : Bool) (t : Turn) → LookupTurns id a t close → IsReady t (tokens_after a []) → IsBelow 4 t →
     Moves (run.Deleting (deleting.LookingUp id)) (told.Hub a) close t
-lookup_moves id a close t turns ready =
-    moves (run.Deleting (deleting.LookingUp id)) a close t ready (λ f aim call at wants fits keeps.
+lookup_moves id a close t turns ready less =
+    moves (run.Deleting (deleting.LookingUp id)) a close t ready (λ before after h. less after) (λ f aim call at wants fits keeps.
     no_aim f aim (AsksWhere id) (DeleteLacks id) (call_step a call at ∷ []) close t wants.0
     (subst (λ (k : Call). RunTurns f [] (AsksWhere id) (DeleteLacks id) (call_step a k at ∷ []) close t) (sym (same_call call (Call.lookup id) wants.1))
     (run_turns f DeletesOn (AsksWhere id) (DeleteLacks id) (call_step a (Call.lookup id) at ∷ []) close t (λ r D U. deletes_on f r D U) (turns at))))
 
-pub end_moves : (id : List ℕ) (b : ℕ) (a : HubAnswer) (close : Bool) (t : Turn) → EndTurns id b a t close → IsReady t (tokens_after a []) →
+pub end_moves : (id : List ℕ) (b : ℕ) (a : HubAnswer) (close : Bool) (t : Turn) → EndTurns id b a t close → IsReady t (tokens_after a []) → IsBelow 3 t →
     Moves (run.Deleting (deleting.Ending id b)) (told.Hub a) close t
-end_moves id b a close t turns ready =
-    moves (run.Deleting (deleting.Ending id b)) a close t ready (λ f aim call at wants fits keeps.
+end_moves id b a close t turns ready less =
+    moves (run.Deleting (deleting.Ending id b)) a close t ready (λ before after h. less after) (λ f aim call at wants fits keeps.
     no_aim f aim (AfterLookup id b) (EndLacks id b) (call_step a call at ∷ []) close t wants.0
     (subst (λ (k : Call). RunTurns f [] (AfterLookup id b) (EndLacks id b) (call_step a k at ∷ []) close t) (sym (same_call call (Call.end id b) wants.1))
     (run_turns f DeletesOn (AfterLookup id b) (EndLacks id b) (call_step a (Call.end id b) at ∷ []) close t (λ r D U. deletes_on f r D U) (turns at))))
 
-pub free_moves : (q : Quitted) (a : HubAnswer) (close : Bool) (t : Turn) → FreeTurns q a t close → IsReady t (tokens_after a []) →
+pub free_moves : (q : Quitted) (a : HubAnswer) (close : Bool) (t : Turn) → FreeTurns q a t close → IsReady t (tokens_after a []) → IsOverTurn t →
     Moves (run.Deleting (deleting.Freeing q)) (told.Hub a) close t
-free_moves q a close t turns ready =
-    moves (run.Deleting (deleting.Freeing q)) a close t ready (λ f aim call at wants fits keeps.
+free_moves q a close t turns ready is_over =
+    moves (run.Deleting (deleting.Freeing q)) a close t ready (λ before after h. none_below t 1 is_over (omega arith) after) (λ f aim call at wants fits keeps.
     let c = wants.1.0 in
     subst (λ (k : Call). RunTurns f (aim_steps aim) (λ more response. RunFollows f (run.Deleting (deleting.Freeing q)) aim (to_call k) more response)
     (λ more. RunStops f (run.Deleting (deleting.Freeing q)) (to_call k) more) (call_step a k at ∷ []) close t)
@@ -216,38 +220,38 @@ free_moves q a close t turns ready =
     (run_turns f DeletesOn (AfterQuit c (kept_response q)) (FreesLacking q c) (call_step a (Call.freed c) at ∷ []) close t (λ r D U. deletes_on f r D U)
     (turns c at))))
 
-pub quit_moves : (c : Closing) (path : SessionPath) (came : Came) (close : Bool) (t : Turn) → QuitTurns c came t → IsReady t (run_tokens (run.Deleting (deleting.Quit c path))) →
+pub quit_moves : (c : Closing) (path : SessionPath) (came : Came) (close : Bool) (t : Turn) → QuitTurns c came t → IsReady t (run_tokens (run.Deleting (deleting.Quit c path))) → IsBelow 2 t →
     Moves (run.Deleting (deleting.Quit c path)) (told.Node came) close t
-quit_moves c path came close t turns ready =
-    moves_by_exchange (run.Deleting (deleting.Quit c path)) came close t ready (λ own f aim w made wants fits made_is.
+quit_moves c path came close t turns ready less =
+    moves_by_exchange (run.Deleting (deleting.Quit c path)) came close t ready (λ before after h. less after) (λ own f aim w made wants fits made_is.
     let is : made ≡ Exchanged c.address (with_path (path_text path)) came ∷ [] = subst (λ (z : Wanted). Made own (told.Node came) z made) wants.1 made_is in
     no_aim f aim (AfterEnd (path_text path) c) (QuitLacks (path_text path) c) made close t wants.0
     (subst (λ (steps : List Step). RunTurns f [] (AfterEnd (path_text path) c) (QuitLacks (path_text path) c) steps close t) (sym is)
     (run_turns f DeletesOn (AfterEnd (path_text path) c) (QuitLacks (path_text path) c) (Exchanged c.address (with_path (path_text path)) came ∷ []) close t
     (λ r D U. deletes_on f r D U) (turns close (path_text path)))))
 
-pub find_moves : (id target : List ℕ) (a : HubAnswer) (close : Bool) (t : Turn) → FindTurns id target a t close → IsReady t (tokens_after a []) →
+pub find_moves : (id target : List ℕ) (a : HubAnswer) (close : Bool) (t : Turn) → FindTurns id target a t close → IsReady t (tokens_after a []) → IsBelow 3 t →
     Moves (run.Relaying (relaying.LookingUp id target)) (told.Hub a) close t
-find_moves id target a close t turns ready =
-    moves (run.Relaying (relaying.LookingUp id target)) a close t ready (λ f aim call at wants fits keeps.
+find_moves id target a close t turns ready less =
+    moves (run.Relaying (relaying.LookingUp id target)) a close t ready (λ before after h. less after) (λ f aim call at wants fits keeps.
     no_aim f aim (FindsNode (relayed f target) id) (RelayLacks (relayed f target) id) (call_step a call at ∷ []) close t wants.0
     (subst (λ (k : Call). RunTurns f [] (FindsNode (relayed f target) id) (RelayLacks (relayed f target) id) (call_step a k at ∷ []) close t) (sym (same_call call (Call.lookup id) wants.1))
     (run_turns f (RelaysOn f) (FindsNode (relayed f target) id) (RelayLacks (relayed f target) id) (call_step a (Call.lookup id) at ∷ []) close t (λ r D U. relays_on f r D U) (turns f at))))
 
-pub touch_moves : (id : List ℕ) (b : ℕ) (address target : List ℕ) (a : HubAnswer) (close : Bool) (t : Turn) → TouchTurns id b address target a t close → IsReady t (tokens_after a []) →
+pub touch_moves : (id : List ℕ) (b : ℕ) (address target : List ℕ) (a : HubAnswer) (close : Bool) (t : Turn) → TouchTurns id b address target a t close → IsReady t (tokens_after a []) → IsBelow 2 t →
     Moves (run.Relaying (relaying.Touching id b address target)) (told.Hub a) close t
-touch_moves id b address target a close t turns ready =
-    moves (run.Relaying (relaying.Touching id b address target)) a close t ready (λ f aim call at wants fits keeps.
+touch_moves id b address target a close t turns ready less =
+    moves (run.Relaying (relaying.Touching id b address target)) a close t ready (λ before after h. less after) (λ f aim call at wants fits keeps.
     no_aim f aim (AfterFound (relayed f target) id address b) (TouchLacks (relayed f target) id address b) (call_step a call at ∷ []) close t wants.0
     (subst (λ (k : Call). RunTurns f [] (AfterFound (relayed f target) id address b) (TouchLacks (relayed f target) id address b) (call_step a k at ∷ []) close t)
     (sym (same_call call (Call.touch id b) wants.1))
     (run_turns f (RelaysOn f) (AfterFound (relayed f target) id address b) (TouchLacks (relayed f target) id address b) (call_step a (Call.touch id b) at ∷ []) close t
     (λ r D U. relays_on f r D U) (turns f at))))
 
-pub relay_moves : (address target : List ℕ) (came : Came) (close : Bool) (t : Turn) → ExchangeTurns came t close → IsReady t [] →
+pub relay_moves : (address target : List ℕ) (came : Came) (close : Bool) (t : Turn) → ExchangeTurns came t close → IsReady t [] → IsOverTurn t →
     Moves (run.Relaying (relaying.Exchange address target)) (told.Node came) close t
-relay_moves address target came close t turns ready =
-    moves_by_exchange (run.Relaying (relaying.Exchange address target)) came close t ready (λ own f aim w made wants fits made_is.
+relay_moves address target came close t turns ready is_over =
+    moves_by_exchange (run.Relaying (relaying.Exchange address target)) came close t ready (λ before after h. none_below t 1 is_over (omega arith) after) (λ own f aim w made wants fits made_is.
     let is : made ≡ Exchanged address (relayed f target) came ∷ [] = subst (λ (z : Wanted). Made own (told.Node came) z made) wants.1 made_is in
     no_aim f aim (AfterTouch (relayed f target) address) (ExchangeLacks (relayed f target) address) made close t wants.0
     (subst (λ (steps : List Step). RunTurns f [] (AfterTouch (relayed f target) address) (ExchangeLacks (relayed f target) address) steps close t) (sym is)
@@ -256,10 +260,10 @@ relay_moves address target came close t turns ready =
 
 -- ---- a New Session
 
-pub enqueue_moves : (a : HubAnswer) (close : Bool) (t : Turn) → EnqueueTurns a t close → IsReady t (tokens_after a []) →
+pub enqueue_moves : (a : HubAnswer) (close : Bool) (t : Turn) → EnqueueTurns a t close → IsReady t (tokens_after a []) → QueuesLess a t →
     Moves (run.Creating creating.Enqueuing) (told.Hub a) close t
-enqueue_moves a close t turns ready =
-    moves (run.Creating creating.Enqueuing) a close t ready (λ f aim call at wants fits keeps.
+enqueue_moves a close t turns ready less =
+    moves (run.Creating creating.Enqueuing) a close t ready less (λ f aim call at wants fits keeps.
     let choices = wants.1 in
     subst (λ (k : Call). RunTurns f (aim_steps aim) (λ more response. RunFollows f (run.Creating creating.Enqueuing) aim (to_call k) more response)
     (λ more. RunStops f (run.Creating creating.Enqueuing) (to_call k) more) (call_step a k at ∷ []) close t)
@@ -267,10 +271,10 @@ enqueue_moves a close t turns ready =
     (no_aim f aim (Asks choices) (AskLacks choices) (call_step a (Call.enqueue choices) at ∷ []) close t wants.0
     (run_turns f CreatesOn (Asks choices) (AskLacks choices) (call_step a (Call.enqueue choices) at ∷ []) close t (λ r D U. creates_on f r D U) (turns choices at))))
 
-pub poll_moves : (n : ℕ) (a : HubAnswer) (close : Bool) (t : Turn) → PollTurns n a t close → IsReady t (tokens_after a []) →
+pub poll_moves : (n : ℕ) (a : HubAnswer) (close : Bool) (t : Turn) → PollTurns n a t close → IsReady t (tokens_after a []) → PollsLess a t →
     Moves (run.Creating (creating.Polling n)) (told.Hub a) close t
-poll_moves n a close t turns ready =
-    moves (run.Creating (creating.Polling n)) a close t ready (λ f aim call at wants fits keeps.
+poll_moves n a close t turns ready less =
+    moves (run.Creating (creating.Polling n)) a close t ready less (λ f aim call at wants fits keeps.
     let u = wants.1 in
     let e = same_call call (Call.poll u) wants.2 in
     subst (λ (k : Call). RunTurns f (aim_steps aim) (λ more response. RunFollows f (run.Creating (creating.Polling n)) aim (to_call k) more response)
@@ -280,9 +284,9 @@ poll_moves n a close t turns ready =
     (run_turns f CreatesOn (Rounds u) NeverStops (call_step a (Call.poll u) at ∷ []) close t (λ r D U. creates_on f r D U)
     (turns u at wants.3 (subst (λ (k : Call). Keeps a k) e keeps)))))
 
-pub pause_moves : (u : Ticket) (close : Bool) (t : Turn) → PauseTurns u t → IsReady t (run_tokens (run.Creating (creating.Pausing u))) →
+pub pause_moves : (u : Ticket) (close : Bool) (t : Turn) → PauseTurns u t → IsReady t (run_tokens (run.Creating (creating.Pausing u))) → t ≡ turn.Go (run.Creating (creating.Poll u)) false →
     Moves (run.Creating (creating.Pausing u)) told.Paused close t
-pause_moves u close t turns ready = record {
+pause_moves u close t turns ready next = record {
   fresh = ready.fresh;
   keeps = λ e. ready.holds;
   void = λ e. absurd (no e);
@@ -291,6 +295,7 @@ pause_moves u close t turns ready = record {
       no_aim f aim (AfterPause u) NeverStops made close t wants.0
       (subst (λ (steps : List Step). RunTurns f [] (AfterPause u) NeverStops steps close t) (sym is)
       (run_turns f CreatesOn (AfterPause u) NeverStops (Paused poll_pause ∷ []) close t (λ r D U. creates_on f r D U) (turns close)));
+  less = λ before after h. subst (λ (x : Turn). turn_work x after < rounds_work before + 2) (sym next) (pause_less u before after h);
 }
   where
     no : false ≡ true → ⊥
@@ -361,10 +366,10 @@ is_call (places.to_call k) call e = ap places.to_call (same_call k call (sym e))
 is_call (places.over e) call x = absurd x
 
 pub start_moves : (u : Ticket) (carry : Carry) (a : HubAnswer) (close : Bool) (t : Turn) → StartTurns u carry a t →
-    IsReady t (tokens_after a (run_tokens (run.Creating (creating.Starting u carry)))) →
+    IsReady t (tokens_after a (run_tokens (run.Creating (creating.Starting u carry)))) → StartAnswersLess carry a t →
     Moves (run.Creating (creating.Starting u carry)) (told.Hub a) close t
-start_moves u carry a close t turns ready =
-    moves (run.Creating (creating.Starting u carry)) a close t ready (λ f aim call at (r, so_far, e, place, stands, wants) fits keeps.
+start_moves u carry a close t turns ready less =
+    moves (run.Creating (creating.Starting u carry)) a close t ready less (λ f aim call at (r, so_far, e, place, stands, wants) fits keeps.
     aimed f u carry aim r so_far (call_step a call at ∷ []) (to_call call) close t e
     (turns r place so_far call at stands (is_call (wanted_at r place) call wants) fits keeps))
 
@@ -377,9 +382,10 @@ asked_made own came (places.to_call call) w made at e fits made_is = absurd (sub
 asked_made own came (places.over x) w made at e fits made_is = absurd e
 
 pub start_moves_by_exchange : (u : Ticket) (carry : Carry) (came : Came) (close : Bool) (t : Turn) → StartMoves u carry (carried.Node came) t →
-    IsReady t (run_tokens (run.Creating (creating.Starting u carry))) → Moves (run.Creating (creating.Starting u carry)) (told.Node came) close t
-start_moves_by_exchange u carry came close t turns ready =
-    moves_by_exchange (run.Creating (creating.Starting u carry)) came close t ready (λ own f aim w made (r, so_far, e, place, stands, wants) fits made_is.
+    IsReady t (run_tokens (run.Creating (creating.Starting u carry))) → StartsLess carry t →
+    Moves (run.Creating (creating.Starting u carry)) (told.Node came) close t
+start_moves_by_exchange u carry came close t turns ready less =
+    moves_by_exchange (run.Creating (creating.Starting u carry)) came close t ready (λ before after h. starts_less carry t before after less h) (λ own f aim w made (r, so_far, e, place, stands, wants) fits made_is.
     let m = asked_made own came (wanted_at r place) w made 0 wants fits made_is in
     aimed f u carry aim r so_far made w close t e
     (subst (λ (steps : List Step). StartLeads u r (so_far ++ steps) t) (sym m.1) (turns r place so_far 0 stands m.0)))

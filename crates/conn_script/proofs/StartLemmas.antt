@@ -1,5 +1,5 @@
 -- A start within a New Session: its calls are taken, and answers move it on.
-use Rattle.std.proofs.Common.{◌≡◌, ◌≢◌, ℕ, Bool, true, false, ◌||◌, ◌&&◌, List, [], ◌∷◌, ◌++◌, refl, sym, ◌∙◌, ap, subst}
+use Rattle.std.proofs.Common.{◌≡◌, ◌≢◌, ℕ, ◌+◌, Bool, true, false, ◌||◌, ◌&&◌, List, [], ◌∷◌, ◌++◌, refl, sym, ◌∙◌, ap, subst}
 use Rattle.std.specs.Prelude.{Option, Some, None, Result, Ok, Err, IfOk, is_some}
 use Rattle.std.proofs.lemmas.List.Folds.{list_any-append}
 use Rattle.grid_types.specs.declared.text.NoMemory.{NoMemory}
@@ -39,6 +39,7 @@ use Rattle.conn_script.specs.Wanted.{Wanted, to_call, call_of, call_step, call_t
 use Rattle.conn_script.specs.Turns.{responded_last}
 use Rattle.conn_script.specs.Creating.{EnqueuedStops, want_of, StartMoves, StartTurns, StartLeads, IsOverNow, kind_or_other}
 use Rattle.conn_script.specs.Running.{IsTaken, IsTakenOfStart, RunFollows, start_awaits, start_held}
+use Rattle.conn_script.specs.Work.{rounds_work}
 use Rattle.conn_script.specs.Moving.{IsReady}
 
 -- ---- calls that are taken
@@ -57,6 +58,7 @@ taken t old new of call takes waits keeps told = record {
   );
   leads = λ f aim w more response h p. p;
   stops = λ f w more p e. p;
+  work_is = λ o. ap (λ (k : ℕ). rounds_work o + (4 + k)) takes.work_is;
 }
 
 pub bind_taken : (t : Ticket) (old new : Carry) (q : Reservation) (x : List ℕ) (cs : List Cap) → Takes old carrying.Bind new →
@@ -110,6 +112,7 @@ enqueue_taken choices = record {
   leads = λ f aim w more response h p.
       subst (λ (z : Wanted). RunFollows f (run.Creating creating.Enqueuing) aim z more response) h.1 p;
   stops = λ f w more p e. by_want f w more e p;
+  work_is = λ o. refl;
 }
   where
     by_want : (f : Request) (w : Wanted) (more : List Step) → w ≡ to_call (Call.enqueue choices) →
@@ -124,6 +127,7 @@ poll_taken t n is = record {
   leads = λ f aim w more response h p.
       subst (λ (z : Wanted). RunFollows f (run.Creating (creating.Polling n)) aim z more response) h.1 p;
   stops = λ f w more p e. p;
+  work_is = λ o. refl;
 }
 
 -- ---- the end of a start

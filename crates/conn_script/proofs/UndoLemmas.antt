@@ -1,5 +1,5 @@
 -- The answers of the end of a session that was created.
-use Rattle.std.proofs.Common.{◌≡◌, ◌≢◌, ℕ, true, false, List, [], ◌∷◌, ◌++◌, refl, sym, ◌∙◌, subst, inl, inr}
+use Rattle.std.proofs.Common.{◌≡◌, ◌≢◌, ℕ, ◌<◌, true, false, List, [], ◌∷◌, ◌++◌, refl, sym, ◌∙◌, subst, inl, inr, arith}
 use Rattle.grid_outside.specs.Exchanges.{Came}
 use Rattle.hub_core.specs.declared.answers.Ending.{Ending}
 use Rattle.hub_core.specs.declared.answers.Ending.TheVariants as ending
@@ -15,6 +15,7 @@ use Rattle.conn_script.specs.declared.undoing.Undoing.{Undoing}
 use Rattle.conn_script.specs.declared.undoing.Undoing.TheVariants as undoing
 use Rattle.conn_script.specs.declared.wants.Answer.TheVariants as told
 use Rattle.conn_script.specs.Wanted.{Wanted, to_ask, to_call, FitsKind, Kind, Made, call_step, tokens_after}
+use Rattle.conn_script.specs.Work.{undo_work}
 use Rattle.conn_script.specs.Undo as rules
 use Rattle.conn_script.specs.Undo.{EndsAtNode, EndsCreated, UndoEndLeads, UndoLeads, UndoFollows, UndoMoves, IsUndoReady}
 use Rattle.conn_script.specs.DeleteSession as deletes
@@ -40,15 +41,16 @@ undo_gone s b at = rules.is_gone at
 
 -- ---- how an answer moves it on
 
-pub end_undoes : (s : List ℕ) (b : ℕ) (a : HubAnswer) (next : Undoing) → UndoEndLeads s b a next → IsUndoReady next (tokens_after a []) →
+pub end_undoes : (s : List ℕ) (b : ℕ) (a : HubAnswer) (next : Undoing) → UndoEndLeads s b a next → IsUndoReady next (tokens_after a []) → undo_work next < 3 →
     UndoMoves (undoing.Ending s b) (told.Hub a) next
-end_undoes s b a next leads ready = record {
+end_undoes s b a next leads ready less = record {
   fresh = ready.fresh;
   keeps = λ e. ready.holds ∙ after_kept a [] e;
   void = λ e. ready.holds ∙ after_spent a [] e;
   leads = λ own w made wants fits made_is.
       let m = subst (λ (z : Wanted). Made own (told.Hub a) z made) wants made_is in
       subst (λ (steps : List Step). UndoLeads next (λ more. EndsCreated s b (steps ++ more))) (sym m.1) (leads m.0);
+  less = less;
 }
 
 free_last : (c : Closing) (a : HubAnswer) (at : ℕ) → FitsKind a Kind.freed → FreesLast c (call_step a (Call.freed c) at ∷ [])
@@ -78,6 +80,7 @@ free_undoes a next f e = subst (λ (u : Undoing). UndoMoves undoing.Freeing (tol
       let m = subst (λ (z : Wanted). Made own (told.Hub a) z made) wants.1 made_is in
       subst (λ (z : Wanted). UndoFollows undoing.Freeing z (made ++ [])) (sym wants.1)
       (subst (λ (steps : List Step). FreesLast wants.0 (steps ++ [])) (sym m.1) (free_last wants.0 a m.0 f));
+  less = omega arith;
 })
   where
     none : (x : HubAnswer) → FitsKind x Kind.freed → tokens_after x [] ≡ []
@@ -106,6 +109,7 @@ quit_undoes c path came = record {
   leads = λ own w made wants fits made_is.
       let m : made ≡ Exchanged c.address (with_path (path_text path)) came ∷ [] = subst (λ (z : Wanted). Made own (told.Node came) z made) wants made_is in
       (to_call (Call.freed c), refl, (λ more y. subst (λ (steps : List Step). EndsAtNode (path_text path) c (steps ++ more)) (sym m) (rules.quits came y)));
+  less = omega arith;
 }
   where
     no : false ≡ true → ⊥

@@ -14,8 +14,10 @@ pub mod Calling
 pub mod Deleting
 pub mod Relaying
 pub mod Creating
+pub mod Work
 pub mod Running
 pub mod Asking
 pub mod Moving
+pub mod WorkLaws
 pub mod Routing
 pub mod SpentLooks

@@ -28,6 +28,7 @@ use Rattle.grid_types.specs.Tokens.{Reservation}
 use Rattle.grid_outside.specs.Exchanges.{ask_of}
 use Rattle.node_client.specs.Places.{Place, wanted_at}
 use Rattle.conn_script.specs.Relay.{relayed}
+use Rattle.conn_script.specs.Work.{RunsLess}
 use Rattle.conn_script.specs.Running.{RunWants, RunFollows, RunStops, RunTurns, run_tokens, run_awaits, run_held, start_awaits, start_held}
 
 -- ---- what a run that goes on may be asked, and which tokens it holds
@@ -79,7 +80,7 @@ pub record IsReady (next : Turn) (tokens : List Token) : Type 0 where
 
 -- ---- the answer to what is wanted
 
--- Whatever the run wanted and whatever steps may have been made of it, the script is over or goes on.
+-- Whatever the run wanted and whatever steps may have been made of it, the script is over or goes on, and less is left to do.
 pub record Moves (old : Run) (answer : Answer) (close : Bool) (next : Turn) : Type 0 where
   pub fresh : turn_is_fresh next ≡ true
   pub keeps : finds_spent answer ≡ false → turn_tokens next ≡ told_tokens answer ++ run_tokens old
@@ -87,6 +88,7 @@ pub record Moves (old : Run) (answer : Answer) (close : Bool) (next : Turn) : Ty
   pub leads : (own : Option (List ℕ)) (f : Request) (aim : Aim) (w : Wanted) (made : List Step) → RunWants f old aim w → Fits answer w →
       Made own answer w made →
       RunTurns f (aim_steps aim) (λ more response. RunFollows f old aim w more response) (λ more. RunStops f old w more) made close next
+  pub less : RunsLess old answer next
 
 -- what is wanted, for the request under way
 pub record AsksFor (r : Run) (whole : Whole) (want : Want) : Type 0 where

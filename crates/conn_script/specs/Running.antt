@@ -30,6 +30,7 @@ use Rattle.node_client.specs.declared.carry.Carry.{Carry}
 use Rattle.node_client.specs.Carrying as carrying
 use Rattle.node_client.specs.Carrying.{awaited, held, is_fresh}
 use Rattle.node_client.specs.Held.{Token, of_closing, of_ticket, carry_tokens}
+use Rattle.conn_script.specs.Work.{KeepsWork}
 use Rattle.conn_script.specs.Creating.{Aim, no_start, aim_steps, kind_in, kind_in_some, CreateWants, CreateFollows, CreateStops}
 
 -- ---- one call
@@ -196,6 +197,7 @@ pub record IsTaken (old : Run) (call : HubCall) (new : Run) : Type 0 where
   pub leads : (f : Request) (aim : Aim) (w : Wanted) (more : List Step) (response : Response) → RunWants f old aim w → RunFollows f new aim w more response →
       RunFollows f old aim w more response
   pub stops : (f : Request) (w : Wanted) (more : List Step) → RunStops f new w more → w ≡ to_call (call_of call) → RunStops f old w more
+  pub work_is : KeepsWork old new
 
 -- the call of a start is handed out
 abbrev pub IsTakenOfStart : Ticket → Carry → HubCall → Run → Type 0

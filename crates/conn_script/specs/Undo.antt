@@ -1,6 +1,6 @@
 -- What is done for a session that was created and of which its client could not be told: a write failed before its whole
 -- response was taken, or there was no memory to build it.
-use Rattle.std.specs.Prelude.{◌≡◌, ◌⊎◌, ℕ, true, false, Bool, List, [], ◌∷◌, ◌++◌, Option, None, Some}
+use Rattle.std.specs.Prelude.{◌≡◌, ◌⊎◌, ℕ, ◌<◌, true, false, Bool, List, [], ◌∷◌, ◌++◌, Option, None, Some}
 use Rattle.grid_types.specs.Tokens.{Closing}
 use Rattle.grid_types.specs.Calls.{Call, Reply}
 use Rattle.grid_outside.specs.Exchanges.{Came}
@@ -15,6 +15,7 @@ use Rattle.conn_script.specs.declared.wants.HubCall.{HubCall}
 use Rattle.conn_script.specs.Responses.{Response, created}
 use Rattle.conn_script.specs.DeleteSession.{FreesLast}
 use Rattle.conn_script.specs.Wanted.{Wanted, to_call, to_ask, call_of, call_step, call_tokens, Kind, kind_of, Awaited, answer_to, came, nothing, Fits, Made, finds_spent, told_tokens, Readies, IsScriptWant, Shows}
+use Rattle.conn_script.specs.Work.{undo_work}
 use Rattle.conn_script.specs.declared.wants.Answer.{Answer}
 use Rattle.conn_script.specs.declared.wants.Want.{Want}
 
@@ -90,6 +91,7 @@ pub record IsUndoTaken (old : Undoing) (call : HubCall) (new : Undoing) : Type 0
   pub keeps : undo_tokens old ≡ call_tokens (call_of call) ++ undo_tokens new
   pub wants : (w : Wanted) → UndoWants old w → (w ≡ to_call (call_of call)) × UndoWants new w
   pub leads : (w : Wanted) (more : List Step) → UndoWants old w → UndoFollows new w more → UndoFollows old w more
+  pub work_is : undo_work new ≡ undo_work old
 
 -- ---- how an answer moves it on
 
@@ -111,6 +113,7 @@ pub record UndoMoves (old : Undoing) (answer : Answer) (next : Undoing) : Type 0
   pub void : finds_spent answer ≡ true → undo_tokens next ≡ []
   pub leads : (own : Option (List ℕ)) (w : Wanted) (made : List Step) → UndoWants old w → Fits answer w → Made own answer w made →
       UndoLeads next (λ more. UndoFollows old w (made ++ more))
+  pub less : undo_work next < undo_work old
 
 -- what is wanted
 pub record UndoAsksFor (u : Undoing) (want : Want) : Type 0 where

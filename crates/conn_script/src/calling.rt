@@ -5,6 +5,7 @@ ghost use Rattle.conn_script.specs.Messages.{node_response};
 ghost use Rattle.conn_script.specs.Wanted.{FitsKind, tokens_after, Kind, is_spent, reply_of};
 ghost use Rattle.conn_script.specs.Build.{Responds};
 ghost use Rattle.conn_script.specs.Moving.{IsReady};
+ghost use Rattle.conn_script.specs.Work.{IsOverTurn};
 ghost use Rattle.conn_script.specs.Calling.{kind_asked, respond_of, CallTurns};
 
 use crate::responses::{cleared, hub_spent, no_such_node, queue, registered, status, success};
@@ -105,6 +106,7 @@ pub fn call_answered(alloc: Global, asked: Asked, answer: HubAnswer, close: bool
     requires { FitsKind answer (kind_asked asked) }
     ensures turns { CallTurns asked answer result close }
     ensures ready { IsReady result (tokens_after answer []) }
+    ensures over { IsOverTurn result }
 {
     match answer {
         HubAnswer::Spent(_) => respond_last(hub_spent(alloc), false),

@@ -1,5 +1,5 @@
 //! A request for a new session (WebDriver §8.1).
-ghost use Rattle.std.specs.Prelude.{◌≡◌, Some, true, is_some, [], ◌∷◌, ◌++◌};
+ghost use Rattle.std.specs.Prelude.{◌≡◌, Some, true, false, is_some, [], ◌∷◌, ◌++◌};
 ghost use Rattle.conn_script.specs.declared.turn.Run.TheVariants as run;
 ghost use Rattle.conn_script.specs.declared.wants.HubAnswer.TheVariants as answers;
 ghost use Rattle.hub_core.specs.declared.answers.Polled.TheVariants as told;
@@ -7,6 +7,9 @@ ghost use Rattle.conn_script.specs.Running.{run_held, IsTaken, IsTakenOfStart};
 ghost use Rattle.conn_script.specs.Creating.{carry_awaits, IsOverNow, IsLeft, IsOther, EnqueueTurns, PollTurns, PauseTurns, StartTurns, StartMoves};
 ghost use Rattle.conn_script.specs.Wanted.{FitsKind, tokens_after, Kind, enqueued_tokens, polled_tokens};
 ghost use Rattle.conn_script.specs.Moving.{IsReady};
+ghost use Rattle.conn_script.specs.Work.{IsOverTurn, QueuesLess, PollsLess, StartsLess, StartAnswersLess};
+ghost use Rattle.conn_script.specs.declared.turn.Turn.TheVariants as turn;
+ghost use Rattle.conn_script.specs.declared.creating.Creating.TheVariants as creating;
 ghost use Rattle.node_client.specs.Held.{of_ticket, told_tokens, carry_tokens};
 ghost use Rattle.node_client.specs.Carrying.{awaited, held, is_fresh, kind_of};
 
@@ -15,7 +18,7 @@ use crate::turn::{Run, Turn, respond, respond_last, unanswered};
 use crate::wants::{HubAnswer, HubCall};
 use grid_types::{Choices, Outcome, ReqNo};
 use hub_core::{Enqueued, Polled, Ticket};
-use node_client::{Carry, CarryAnswer, CarryWant};
+use node_client::{Carry, CarryAnswer, CarryWant, starts_are_short};
 use std::alloc::Global;
 
 /// A New Session under way, once its choices are known.
@@ -84,6 +87,7 @@ pub fn enqueued(alloc: Global, answer: HubAnswer, close: bool) -> Turn
     requires { FitsKind answer Kind.enqueue }
     ensures turns { EnqueueTurns answer result close }
     ensures ready { IsReady result (tokens_after answer []) }
+    ensures less { QueuesLess answer result }
 {
     match answer {
         HubAnswer::Enqueue(answer) => enqueue_told(alloc, answer, close),
@@ -94,6 +98,7 @@ pub fn enqueued(alloc: Global, answer: HubAnswer, close: bool) -> Turn
 fn enqueue_told(alloc: Global, answer: Enqueued, close: bool) -> Turn
     ensures turns { EnqueueTurns (answers.Enqueue answer) result close }
     ensures ready { IsReady result (enqueued_tokens answer) }
+    ensures less { QueuesLess (answers.Enqueue answer) result }
 {
     match answer {
         Enqueued::Queued(ticket) => Turn::Go(Run::Creating(Creating::Poll(ticket)), false),
@@ -106,6 +111,7 @@ pub fn polled(alloc: Global, request: ReqNo, answer: HubAnswer, close: bool) -> 
     requires { FitsKind answer Kind.poll }
     ensures turns { PollTurns request answer result close }
     ensures ready { IsReady result (tokens_after answer []) }
+    ensures less { PollsLess answer result }
 {
     match answer {
         HubAnswer::Poll(answer) => poll_told(alloc, request, answer, close),
@@ -116,7 +122,9 @@ pub fn polled(alloc: Global, request: ReqNo, answer: HubAnswer, close: bool) -> 
 fn poll_told(alloc: Global, request: ReqNo, answer: Polled, close: bool) -> Turn
     ensures turns { PollTurns request (answers.Poll answer) result close }
     ensures ready { IsReady result (polled_tokens answer) }
+    ensures less { PollsLess (answers.Poll answer) result }
 {
+    starts_are_short();
     match answer {
         Polled::NotYet(ticket) => Turn::Go(Run::Creating(Creating::Pausing(ticket)), false),
         Polled::Memory(ticket) => Turn::Go(Run::Creating(Creating::Pausing(ticket)), true),
@@ -132,6 +140,7 @@ fn poll_told(alloc: Global, request: ReqNo, answer: Polled, close: bool) -> Turn
 fn outcome_told(alloc: Global, request: ReqNo, outcome: &Outcome, close: bool) -> Turn
     ensures turns { PollTurns request (answers.Poll (told.Settled outcome.now)) result close }
     ensures ready { IsReady result [] }
+    ensures over { IsOverTurn result }
 {
     let response = settled(alloc, request, outcome, close);
     match outcome {
@@ -151,6 +160,7 @@ fn outcome_told(alloc: Global, request: ReqNo, outcome: &Outcome, close: bool) -
 pub fn polls_again(ticket: Ticket) -> Turn
     ensures turns { PauseTurns ticket result }
     ensures ready { IsReady result (of_ticket ticket ∷ []) }
+    ensures next { result ≡ turn.Go (run.Creating (creating.Poll ticket)) false }
 {
     Turn::Go(Run::Creating(Creating::Poll(ticket)), false)
 }
@@ -160,6 +170,7 @@ pub fn start_answered(alloc: Global, ticket: Ticket, carry: Carry, answer: HubAn
     requires { FitsKind answer (carry_awaits carry) }
     ensures turns { StartTurns ticket carry answer result }
     ensures ready { IsReady result (tokens_after answer (carry_tokens carry ++ of_ticket ticket ∷ [])) }
+    ensures less { StartAnswersLess carry answer result }
 {
     match answer {
         HubAnswer::Bind(binding) => start_told(ticket, carry, CarryAnswer::Bound(binding)),
@@ -173,6 +184,7 @@ fn freed_or_spent(alloc: Global, ticket: Ticket, carry: Carry, answer: &HubAnswe
     requires other { IsOther answer.now }
     ensures turns { StartTurns ticket carry answer.now result }
     ensures ready { IsReady result (tokens_after answer.now (carry_tokens carry ++ of_ticket ticket ∷ [])) }
+    ensures less { StartAnswersLess carry answer.now result }
 {
     match answer {
         HubAnswer::Freed => start_told(ticket, carry, CarryAnswer::Freed),
@@ -186,6 +198,7 @@ pub fn start_told(ticket: Ticket, mut carry: Carry, answer: CarryAnswer) -> Turn
     requires { awaited carry ≡ Some (kind_of answer) }
     ensures turns { StartMoves ticket carry answer result }
     ensures ready { IsReady result (told_tokens answer ++ carry_tokens carry ++ of_ticket ticket ∷ []) }
+    ensures less { StartsLess carry result }
 {
     carry.feed(answer);
     if is_over(&carry) {

@@ -4,6 +4,7 @@ ghost use Rattle.conn_script.specs.declared.wants.HubAnswer.TheVariants as answe
 ghost use Rattle.conn_script.specs.Deleting.{quitted_of, kept_response, is_lacking, IsFreeSpent, IsKept, LookupTurns, EndTurns, QuitTurns, FreeTurns};
 ghost use Rattle.conn_script.specs.Wanted.{FitsKind, tokens_after, Kind, ending_tokens};
 ghost use Rattle.conn_script.specs.Moving.{IsReady};
+ghost use Rattle.conn_script.specs.Work.{IsOverTurn, IsBelow};
 ghost use Rattle.node_client.specs.Held.{of_closing};
 
 use crate::responses::{hub_spent, no_such_session, node_not_http, node_unreachable, success};
@@ -41,6 +42,7 @@ pub fn looked_up(alloc: Global, session: SessionId, answer: HubAnswer, close: bo
     requires { FitsKind answer Kind.lookup }
     ensures turns { LookupTurns session answer result close }
     ensures ready { IsReady result (tokens_after answer []) }
+    ensures less { IsBelow 4 result }
 {
     match answer {
         HubAnswer::Lookup(found) => found_told(alloc, session, found, close),
@@ -52,6 +54,7 @@ pub fn looked_up(alloc: Global, session: SessionId, answer: HubAnswer, close: bo
 fn found_told(alloc: Global, session: SessionId, found: Found, close: bool) -> Turn
     ensures turns { LookupTurns session (answers.Lookup found) result close }
     ensures ready { IsReady result [] }
+    ensures less { IsBelow 4 result }
 {
     match found {
         Found::At { binding, .. } => {
@@ -65,6 +68,7 @@ fn found_told(alloc: Global, session: SessionId, found: Found, close: bool) -> T
 fn end_told(alloc: Global, session: &SessionId, ending: Ending, close: bool) -> Turn
     ensures turns { (b : ℕ) → EndTurns session.now b (answers.End ending) result close }
     ensures ready { IsReady result (ending_tokens ending) }
+    ensures less { IsBelow 3 result }
 {
     match ending {
         Ending::Ended(closing) => {
@@ -86,6 +90,7 @@ pub fn ended(
     requires { FitsKind answer Kind.end }
     ensures turns { EndTurns session binding answer result close }
     ensures ready { IsReady result (tokens_after answer []) }
+    ensures less { IsBelow 3 result }
 {
     match answer {
         HubAnswer::End(ending) => end_told(alloc, &session, ending, close),
@@ -115,6 +120,7 @@ fn is_lack(quitted: Quitted) -> bool
 pub fn quit(closing: Closing, came: &Result<Reply, ExchangeFault>) -> Turn
     ensures turns { QuitTurns closing came.now result }
     ensures ready { IsReady result (of_closing closing ∷ []) }
+    ensures less { IsBelow 2 result }
 {
     let quitted = what_came(came);
     Turn::Go(
@@ -139,6 +145,7 @@ pub fn freed(alloc: Global, quitted: Quitted, answer: HubAnswer, close: bool) ->
     requires { FitsKind answer Kind.freed }
     ensures turns { FreeTurns quitted answer result close }
     ensures ready { IsReady result (tokens_after answer []) }
+    ensures over { IsOverTurn result }
 {
     match answer {
         HubAnswer::Spent(_) => free_spent(alloc, quitted),
@@ -150,6 +157,7 @@ pub fn freed(alloc: Global, quitted: Quitted, answer: HubAnswer, close: bool) ->
 fn free_told(alloc: Global, quitted: Quitted, _: HubAnswer, close: bool) -> Turn
     ensures turns { FreeTurns quitted answers.Freed result close }
     ensures ready { IsReady result [] }
+    ensures over { IsOverTurn result }
 {
     respond(quit_response(alloc, quitted, close))
 }
@@ -158,6 +166,7 @@ fn free_told(alloc: Global, quitted: Quitted, _: HubAnswer, close: bool) -> Turn
 fn free_spent(alloc: Global, quitted: Quitted) -> Turn
     ensures turns { IsFreeSpent quitted result }
     ensures ready { IsReady result [] }
+    ensures over { IsOverTurn result }
 {
     match quitted {
         Quitted::Memory => Turn::Lacks,

@@ -15,6 +15,7 @@ mod running;
 mod turn;
 mod undoing;
 mod wants;
+mod work;
 
 pub use calling::{Asked, Calling};
 pub use creating::Creating;
@@ -27,6 +28,7 @@ pub use routing::first_turn;
 pub use turn::{Run, Turn};
 pub use undoing::Undoing;
 pub use wants::{Answer, ConnFault, End, HubAnswer, HubCall, LIMIT, PAUSE, PIECE, Served, Want};
+pub use work::first_turns_are_within;
 
 #[cfg(test)]
 mod tests;

@@ -4,6 +4,7 @@ ghost use Rattle.conn_script.specs.Relaying.{FindTurns, TouchTurns, ExchangeTurn
 ghost use Rattle.conn_script.specs.declared.wants.HubAnswer.TheVariants as answers;
 ghost use Rattle.conn_script.specs.Wanted.{FitsKind, tokens_after, Kind};
 ghost use Rattle.conn_script.specs.Moving.{IsReady};
+ghost use Rattle.conn_script.specs.Work.{IsOverTurn, IsBelow};
 
 use crate::responses::{no_such_session, node_not_http, node_unreachable, passed_on};
 use crate::turn::{Run, Turn, respond, unanswered};
@@ -34,6 +35,7 @@ pub fn node_found(
     requires { FitsKind answer Kind.lookup }
     ensures turns { FindTurns session target answer result close }
     ensures ready { IsReady result (tokens_after answer []) }
+    ensures less { IsBelow 3 result }
 {
     match answer {
         HubAnswer::Lookup(found) => found_told(alloc, session, target, found, close),
@@ -45,6 +47,7 @@ pub fn node_found(
 fn found_told(alloc: Global, session: SessionId, target: Bytes, found: Found, close: bool) -> Turn
     ensures turns { FindTurns session target (answers.Lookup found) result close }
     ensures ready { IsReady result [] }
+    ensures less { IsBelow 3 result }
 {
     match found {
         Found::At {
@@ -72,6 +75,7 @@ pub fn touched(
     requires { FitsKind answer Kind.touch }
     ensures turns { TouchTurns session binding address target answer result close }
     ensures ready { IsReady result (tokens_after answer []) }
+    ensures less { IsBelow 2 result }
 {
     match answer {
         HubAnswer::Touch(touching) => touch_told(alloc, address, target, touching, close),
@@ -89,6 +93,7 @@ fn touch_told(
 ) -> Turn
     ensures turns { (id : List ℕ) (b : ℕ) → TouchTurns id b address target (answers.Touch touching) result close }
     ensures ready { IsReady result [] }
+    ensures less { IsBelow 2 result }
 {
     match touching {
         Touching::Touched => { Turn::Go(Run::Relaying(Relaying::Exchange(address, target)), false) }
@@ -100,6 +105,7 @@ fn touch_told(
 pub fn exchanged(alloc: Global, came: Result<Reply, ExchangeFault>, close: bool) -> Turn
     ensures turns { ExchangeTurns came result close }
     ensures ready { IsReady result [] }
+    ensures over { IsOverTurn result }
 {
     match came {
         Ok(Reply::Http(reply)) => respond(passed_on(alloc, &reply, close)),
@@ -112,6 +118,7 @@ pub fn exchanged(alloc: Global, came: Result<Reply, ExchangeFault>, close: bool)
 fn not_exchanged(alloc: Global, fault: ExchangeFault, close: bool) -> Turn
     ensures turns { ExchangeTurns (Err fault) result close }
     ensures ready { IsReady result [] }
+    ensures over { IsOverTurn result }
 {
     match fault {
         ExchangeFault::Unreachable => respond(node_unreachable(alloc, close)),

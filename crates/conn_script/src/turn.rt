@@ -3,6 +3,7 @@ ghost use Rattle.std.specs.Prelude.{◌≡◌, true, is_some, []};
 ghost use Rattle.conn_script.specs.Moving.{IsReady};
 ghost use Rattle.conn_script.specs.Running.{call_held, run_held, IsTaken};
 ghost use Rattle.conn_script.specs.declared.turn.Run.TheVariants as run;
+ghost use Rattle.conn_script.specs.Work.{IsOverTurn};
 ghost use Rattle.conn_script.specs.Turns.{responded, responded_last, IsUnanswered};
 
 use crate::calling::Calling;
@@ -43,6 +44,7 @@ pub enum Turn {
 pub fn respond(response: Result<Bytes, NoMemory>) -> Turn
     ensures turn { result ≡ responded response }
     ensures ready { IsReady result [] }
+    ensures over { IsOverTurn result }
 {
     match response {
         Ok(bytes) => Turn::Respond(bytes),
@@ -54,6 +56,7 @@ pub fn respond(response: Result<Bytes, NoMemory>) -> Turn
 pub fn respond_last(response: Result<Bytes, NoMemory>, short: bool) -> Turn
     ensures turn { result ≡ responded_last response short }
     ensures ready { IsReady result [] }
+    ensures over { IsOverTurn result }
 {
     match response {
         Ok(bytes) => Turn::RespondLast(bytes, short),
@@ -65,6 +68,7 @@ pub fn respond_last(response: Result<Bytes, NoMemory>, short: bool) -> Turn
 pub fn unanswered(alloc: Global, answer: HubAnswer) -> Turn
     ensures turn { IsUnanswered answer result }
     ensures ready { IsReady result [] }
+    ensures over { IsOverTurn result }
 {
     match answer {
         HubAnswer::Spent(_) => respond_last(hub_spent(alloc), false),

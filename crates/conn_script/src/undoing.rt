@@ -1,9 +1,10 @@
 //! The end of a session that was created and of which its client could not be told.
-ghost use Rattle.std.specs.Prelude.{◌≡◌, ℕ, [], true, is_some};
+ghost use Rattle.std.specs.Prelude.{◌≡◌, ℕ, ◌<◌, [], true, is_some};
 ghost use Rattle.conn_script.specs.declared.wants.HubAnswer.TheVariants as answers;
 ghost use Rattle.conn_script.specs.declared.undoing.Undoing.TheVariants as undoing;
 ghost use Rattle.conn_script.specs.declared.wants.Answer.TheVariants as told;
 ghost use Rattle.conn_script.specs.Undo.{undo_held, undo_awaits, undo_goes_on, IsUndoTaken, UndoEndLeads, IsUndoReady, UndoMoves, UndoAsksFor};
+ghost use Rattle.conn_script.specs.Work.{undo_work};
 ghost use Rattle.conn_script.specs.Wanted.{FitsKind, Kind, IsAwaited, tokens_after, ending_tokens};
 
 use crate::wants::{HubAnswer, HubCall, Want};
@@ -44,6 +45,7 @@ pub fn undo_ended(session: SessionId, binding: ReqNo, answer: HubAnswer) -> Undo
     requires { FitsKind answer Kind.end }
     ensures leads { UndoEndLeads session binding answer result }
     ensures ready { IsUndoReady result (tokens_after answer []) }
+    ensures less { undo_work result < 3 }
 {
     match answer {
         HubAnswer::End(ending) => undo_told(&session, ending),
@@ -54,6 +56,7 @@ pub fn undo_ended(session: SessionId, binding: ReqNo, answer: HubAnswer) -> Undo
 fn undo_told(session: &SessionId, ending: Ending) -> Undoing
     ensures leads { (binding : ℕ) → UndoEndLeads session.now binding (answers.End ending) result }
     ensures ready { IsUndoReady result (ending_tokens ending) }
+    ensures less { undo_work result < 3 }
 {
     match ending {
         Ending::Ended(closing) => {

@@ -3,6 +3,7 @@ mod ScriptLemmas
 mod EndLemmas
 mod InboxLemmas
 mod StateLemmas
+mod WorkLemmas
 mod WriteLemmas
 mod GoLemmas
 mod TalkLemmas

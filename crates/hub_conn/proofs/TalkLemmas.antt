@@ -33,6 +33,7 @@ use Rattle.hub_conn.specs.Inbox.{Holds, HoldsWhole}
 use Rattle.hub_conn.specs.Talk.{Rests, Answered, Standing, awaited, state_awaits, held, state_held, tokens, state_tokens, Cause, result_cause, blamed, state_cause, HandsOut, Says, Takes, IsHeld, IsNew, Settles, of_nothing}
 use Rattle.hub_conn.proofs.ReadLemmas.{WholeTakes, reads_begins}
 use Rattle.hub_conn.proofs.StateLemmas.{stands_in, in_state_of, counts_kept, settles_in}
+use Rattle.hub_conn.proofs.WorkLemmas.{run_kept, undo_kept}
 use Rattle.conn_script.specs.Creating.{no_start}
 use Rattle.hub_conn.proofs.GoLemmas.{front_kept}
 use Rattle.hub_conn.proofs.EndLemmas.{NoneAccepted, unended, read_on_of}
@@ -258,6 +259,7 @@ takes_run old new r s call e taken at rests = record {
           );
         }),
       );
+  work_is = run_kept old new r s e at rests taken.work_is;
 }
 
 pub takes_undo : (old new : Talk) (fault : ConnFault) (u v : Undoing) (call : HubCall) → old.state ≡ states.Undoing fault u → IsUndoTaken u call v → new.state ≡ states.Undoing fault v →
@@ -276,6 +278,7 @@ takes_undo old new fault u v call e taken at = record {
           ends = λ undone y. x.ends undone (taken.leads w undone x.wants y);
         }),
       );
+  work_is = undo_kept old new fault u v e at taken.work_is;
 }
 
 pub held_at : (talk : Talk) (s : State) → talk.state ≡ s → IsHeld (held talk) → IsHeld (state_held s)

@@ -1,5 +1,6 @@
 pub mod Conversation
 pub mod Inbox
+pub mod Work
 pub mod Talk
 pub mod CallLaws
 pub mod SpentLaws

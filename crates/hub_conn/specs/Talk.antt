@@ -40,6 +40,7 @@ use Rattle.hub_conn.specs.declared.talk.Kept.{Kept}
 use Rattle.hub_conn.specs.declared.talk.Kept.TheVariants as kept
 use Rattle.hub_conn.specs.Conversation.{WriteBroke, Answers, Scripts, Waits, Talked, Finished, IsUnended}
 use Rattle.hub_conn.specs.Inbox.{Holds, HoldsSome, HoldsWhole}
+use Rattle.hub_conn.specs.Work.{FeedsLess, KeepsWork}
 
 -- ---- causes outside
 
@@ -271,7 +272,7 @@ pub record HandsOut (talk : Talk) (want : Want) : Type 0 where
   pub no_tokens : IsOver want → tokens talk ≡ []
   pub blames : (result : Result Served ConnFault) → want ≡ wants.Done result → result_cause result ≡ blamed talk
 
--- a call is handed out, with its tokens; the value stands for the same, and awaits the answer
+-- a call is handed out, with its tokens; the value stands for the same, awaits the answer, and has as much left to do
 pub record Takes (old : Talk) (call : HubCall) (new : Talk) : Type 0 where
   pub waits : (own : Option (List ℕ)) (w : Wanted) (bytes : List ℕ) (steps : List Step) (written : List ℕ) → Stands old own w bytes steps written →
       awaited new ≡ answer_to (kind_of (call_of call))
@@ -279,13 +280,14 @@ pub record Takes (old : Talk) (call : HubCall) (new : Talk) : Type 0 where
   pub blames : blamed new ≡ blamed old
   pub stands : (own : Option (List ℕ)) (w : Wanted) (bytes : List ℕ) (steps : List Step) (written : List ℕ) →
       Stands old own w bytes steps written → (w ≡ to_call (call_of call)) × Stands new own w bytes steps written
+  pub work_is : KeepsWork old new
 
 -- the tokens after an answer: those that it brings and those that were held; none where the hub is spent
 abbrev pub KeepsTokens : Talk → Answer → Talk → Type 0
 KeepsTokens old answer new =
     (finds_spent answer ≡ false → tokens new ≡ told_tokens answer ++ tokens old) × (finds_spent answer ≡ true → tokens new ≡ [])
 
--- whatever it stood for, it stands for that with these bytes, steps and written bytes at the end
+-- whatever it stood for, it stands for that with these bytes, steps and written bytes at the end, and has less left to do
 pub record Feeds (old : Talk) (answer : Answer) (new : Talk) : Type 0 where
   pub fresh : is_fresh new ≡ true
   pub blames : blamed new ≡ cause_after (blamed old) answer
@@ -293,6 +295,7 @@ pub record Feeds (old : Talk) (answer : Answer) (new : Talk) : Type 0 where
   pub stands : (own : Option (List ℕ)) (w : Wanted) (bytes : List ℕ) (steps : List Step) (written : List ℕ) (made : List Step) →
       Stands old own w bytes steps written → Fits answer w → Made own answer w made →
       (next : Wanted) × Stands new own next (bytes ++ bytes_in answer) (steps ++ made) (written ++ taken_of answer w)
+  pub less : FeedsLess old answer new
 
 -- ---- what the steps inside keep
 

@@ -1,6 +1,8 @@
 //! What the definitions of a start say.
-ghost use Rattle.std.specs.Prelude.{◌≡◌, ℕ, List};
+ghost use Rattle.std.specs.Prelude.{◌≡◌, ℕ, ◌≤◌, List};
 ghost use Rattle.node_client.specs.Replies.{Said, Says};
+ghost use Rattle.node_client.specs.declared.carry.Carry.{Carry};
+ghost use Rattle.node_client.specs.Carrying.{work};
 ghost use Rattle.node_client.specs.Spending.{StartsSpendAll};
 ghost use Rattle.node_client.specs.StandLaws.{StandLaws};
 
@@ -24,4 +26,9 @@ pub fn starts_spend_all()
 /// token at most.
 pub fn starts_stand_by_their_wants()
     ensures { StandLaws }
+{}
+
+/// A start is over after four answers at most, since each answer lowers its work.
+pub fn starts_are_short()
+    ensures { (carry : Carry) → work carry ≤ 4 }
 {}

@@ -1,5 +1,6 @@
 //! Bytes that come, and what stands at their front.
 ghost use Rattle.std.specs.Prelude.{◌≡◌, ◌≤◌, ◌+◌, ◌&&◌, not, [], length};
+ghost use Rattle.hub_conn.specs.Work.{bytes_left, read_work, begin_work, look_work, LeavesAtMost};
 ghost use Rattle.conn_script.specs.declared.wants.Answer.TheVariants as told;
 ghost use Rattle.conn_script.specs.declared.wants.TheConstants.{LIMIT};
 ghost use Rattle.hub_conn.specs.declared.talk.State.TheVariants as states;
@@ -77,6 +78,7 @@ impl Talk {
         requires { HoldsSome self.old.inbox }
         ensures looks { Looks self.old self.new }
         ensures settles { Settles self.new of_nothing [] }
+        ensures less { LeavesAtMost (look_work self.old.continued (bytes_left self.old)) self.new }
     {
         match self.inbox.fill() {
             Ok(()) => self.look_first(),
@@ -90,6 +92,7 @@ impl Talk {
         requires filled { IsFilled self.old.inbox }
         ensures looks { Looks self.old self.new }
         ensures settles { Settles self.new of_nothing [] }
+        ensures less { LeavesAtMost (look_work self.old.continued (bytes_left self.old)) self.new }
     {
         let waits = self.inbox.waits();
         if is_due(waits, self.continued) {
@@ -105,6 +108,7 @@ impl Talk {
         requires filled { IsFilled self.old.inbox }
         ensures looks { LooksOn self.old self.new }
         ensures settles { Settles self.new of_nothing [] }
+        ensures less { LeavesAtMost (begin_work (bytes_left self.old)) self.new }
     {
         stays();
         match self.inbox.see() {
@@ -121,6 +125,7 @@ impl Talk {
     fn read_on(&mut self)
         ensures reads { ReadsOn self.old self.new }
         ensures settles { Settles self.new of_nothing [] }
+        ensures less { LeavesAtMost (read_work (bytes_left self.old)) self.new }
     {
         stays();
         one_head();
@@ -135,10 +140,12 @@ impl Talk {
     fn refuse(&mut self, why: FrameFault)
         ensures refuses { Refuses self.old why self.new }
         ensures settles { Settles self.new of_nothing [] }
+        ensures less { LeavesAtMost (read_work (bytes_left self.old)) self.new }
     {
         stays();
         match refusal(self.alloc, why) {
             Ok(bytes) => {
+                let _length = bytes.as_bytes().len();
                 let at = self.begins;
                 self.state = State::Writing(Outgoing {
                     bytes,

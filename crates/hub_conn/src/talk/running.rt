@@ -1,5 +1,7 @@
 //! The script of the request under way.
-ghost use Rattle.std.specs.Prelude.{◌≡◌, ◌⊎◌, ◌||◌, true, [], Err};
+ghost use Rattle.std.specs.Prelude.{◌≡◌, ◌⊎◌, ◌||◌, ◌+◌, true, [], Err};
+ghost use Rattle.conn_script.specs.Work.{undo_work};
+ghost use Rattle.hub_conn.specs.Work.{LeavesAtMost, TurnsTo};
 ghost use Rattle.conn_script.specs.Wanted.{IsAwaited};
 ghost use Rattle.conn_script.specs.Moving.{IsReady, turn_is_fresh, turn_tokens};
 ghost use Rattle.conn_script.specs.Undo.{undo_tokens, undo_goes_on};
@@ -10,7 +12,7 @@ ghost use Rattle.hub_conn.specs.Talk.{StandsForSome, awaited, Feeds, Settles, of
 ghost use Rattle.hub_conn.specs.Inbox.{HoldsSomeWhole};
 
 use crate::talk::{Kept, State, Talk};
-use conn_script::{ConnFault, HubAnswer, Turn, Undoing, first_turn};
+use conn_script::{ConnFault, HubAnswer, Turn, Undoing, first_turn, first_turns_are_within};
 use grid_outside::{ExchangeFault, Reply};
 use http_frames::stays;
 use router_core::Router;
@@ -22,6 +24,7 @@ impl Talk {
         requires stands { StandsForSome self.old }
         ensures { Feeds self.old told.Begun self.new }
     {
+        first_turns_are_within();
         self.keep_router();
         let turn = self.first();
         self.turn(turn);
@@ -55,6 +58,7 @@ impl Talk {
         requires fresh { turn_is_fresh turn ≡ true }
         ensures goes { GoesOn self.old turn self.new }
         ensures settles { Settles self.new of_nothing (turn_tokens turn) }
+        ensures less { TurnsTo self.old turn self.new }
     {
         stays();
         match turn {
@@ -127,6 +131,7 @@ impl Talk {
         requires { (undoing ≡ undo.Over) ⊎ (undo_goes_on undoing ≡ true) }
         ensures undone { HasUndone fault undoing self.new }
         ensures settles { Settles self.new (result_cause (Err fault)) (undo_tokens undoing) }
+        ensures less { LeavesAtMost (1 + undo_work undoing) self.new }
     {
         match undoing {
             Undoing::Over => self.fail(fault),

@@ -1,5 +1,6 @@
 //! Responses that are written.
-ghost use Rattle.std.specs.Prelude.{◌+◌, ◌≤◌, [], length, Err};
+ghost use Rattle.std.specs.Prelude.{◌+◌, ◌*◌, ◌≤◌, [], length, Err};
+ghost use Rattle.hub_conn.specs.Work.{byte_work, bytes_left, then_work, LeavesAtMost, ContinuesSome, SendsSome};
 ghost use Rattle.conn_script.specs.Wanted.{IsAwaited};
 ghost use Rattle.conn_script.specs.declared.wants.Answer.TheVariants as told;
 ghost use Rattle.hub_conn.specs.Inbox.{HoldsSome};
@@ -30,6 +31,7 @@ impl Talk {
         requires within { sent + count ≤ 25 }
         ensures goes { ContinuesBy self.old sent count self.new }
         ensures settles { Settles self.new of_nothing [] }
+        ensures less { ContinuesSome self.old sent count self.new }
     {
         let sent = sent + count;
         if sent < CONTINUE.len() {
@@ -46,6 +48,7 @@ impl Talk {
         requires within { out.sent + count ≤ length out.bytes }
         ensures goes { SendsBy self.old out count self.new }
         ensures settles { Settles self.new of_nothing [] }
+        ensures less { SendsSome self.old out count self.new }
     {
         let sent = out.sent + count;
         if sent < out.bytes.as_bytes().len() {
@@ -60,6 +63,7 @@ impl Talk {
         requires { HoldsNext self.old then }
         ensures all { SentAll self.old then self.new }
         ensures settles { Settles self.new of_nothing [] }
+        ensures less { LeavesAtMost (then_work then (bytes_left self.old)) self.new }
     {
         match then {
             Then::Next => self.look(),
@@ -72,8 +76,10 @@ impl Talk {
         requires { IsAnswerable self.old }
         ensures responds { Responds self.old bytes is_last kept self.new }
         ensures settles { Settles self.new of_nothing [] }
+        ensures less { LeavesAtMost (byte_work * bytes_left self.old) self.new }
     {
         stays();
+        let _length = bytes.as_bytes().len();
         let then = next_after(is_last, self.closes);
         let left = self.inbox.next();
         self.begins = self.read - left as u64;
@@ -103,6 +109,7 @@ impl Talk {
     fn broken_off(&mut self, out: &Outgoing)
         ensures breaks { BreaksOff self.old out.now self.new }
         ensures settles { Settles self.new of_write [] }
+        ensures less { LeavesAtMost 4 self.new }
     {
         match out.kept {
             Kept::Created(session, binding) => self.undo(ConnFault::Write, session, binding),
@@ -114,6 +121,7 @@ impl Talk {
     pub(super) fn undo(&mut self, fault: ConnFault, session: SessionId, binding: ReqNo)
         ensures ends { EndsUndone fault session binding self.new }
         ensures settles { Settles self.new (result_cause (Err fault)) [] }
+        ensures less { LeavesAtMost 4 self.new }
     {
         self.state = State::Undoing(fault, Undoing::End(session, binding));
     }

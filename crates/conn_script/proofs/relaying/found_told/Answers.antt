@@ -1,4 +1,6 @@
+use Rattle.std.proofs.Common.{arith}
 use Rattle.conn_script.proofs.RelayLemmas.{find_found, find_none}
+use Rattle.conn_script.proofs.WorkLemmas.{none_below}
 use Rattle.conn_script.proofs.relaying.found_told.Goals as goal
 
 pub returns-in-At-clause-turns : goal.returns-in-At-clause-turns
@@ -6,3 +8,6 @@ returns-in-At-clause-turns c = rw c.in-At.is (find_found c.args.session c.args.t
 
 pub returns-in-NoSession-clause-turns : goal.returns-in-NoSession-clause-turns
 returns-in-NoSession-clause-turns c = rw c.in-NoSession.is (rw c.respond.ensures.turn (find_none c.args.session c.args.target c.args.close c.no_such_session.result c.no_such_session.ensures))
+
+pub returns-in-NoSession-clause-less : goal.returns-in-NoSession-clause-less
+returns-in-NoSession-clause-less c = none_below c.respond.result 3 c.respond.ensures.over (omega arith)

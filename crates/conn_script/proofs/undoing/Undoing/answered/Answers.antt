@@ -9,7 +9,7 @@ use Rattle.conn_script.proofs.undoing.Undoing.answered.Goals as goal
 pub returns-in-Ending : goal.returns-in-Ending
 returns-in-Ending c =
     subst (λ (u : Undoing). UndoMoves u (told.Hub c.args.answer) c.undo_ended.result) (sym c.in-Ending.is)
-    (end_undoes c.in-Ending.session c.in-Ending.binding c.args.answer c.undo_ended.result c.undo_ended.ensures.leads c.undo_ended.ensures.ready)
+    (end_undoes c.in-Ending.session c.in-Ending.binding c.args.answer c.undo_ended.result c.undo_ended.ensures.leads c.undo_ended.ensures.ready c.undo_ended.ensures.less)
 
 pub returns-in-Freeing : goal.returns-in-Freeing
 returns-in-Freeing c =

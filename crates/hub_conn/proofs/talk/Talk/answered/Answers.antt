@@ -23,12 +23,12 @@ returns-in-Running c =
     feeds_turn c.args.self.now c.take_state.new.self c.turn.new.self c.in-Running.run' (told.Hub c.args.answer) c.answered-turn.result
     (sym c.take_state.ensures.taken ∙ c.in-Running.is)
     (subst (λ (b : Bool). Moves c.in-Running.run' (told.Hub c.args.answer) b c.answered-turn.result) c.take_state.ensures.rests.closing c.answered-turn.ensures)
-    c.take_state.ensures.rests c.turn.ensures.settles c.turn.ensures.goes refl refl (λ w. refl)
+    c.take_state.ensures.rests c.turn.ensures.settles c.turn.ensures.goes refl refl (λ w. refl) c.turn.ensures.less
 
 pub returns-in-Undoing : goal.returns-in-Undoing
 returns-in-Undoing c =
     feeds_undo c.args.self.now c.undone.new.self c.in-Undoing.fault c.in-Undoing.undoing c.answered.result (told.Hub c.args.answer)
-    (sym c.take_state.ensures.taken ∙ c.in-Undoing.is) c.answered.ensures c.undone.ensures.settles c.undone.ensures.undone refl refl (λ w. refl)
+    (sym c.take_state.ensures.taken ∙ c.in-Undoing.is) c.answered.ensures c.undone.ensures.settles c.undone.ensures.undone refl refl (λ w. refl) c.undone.ensures.less
 
 pub answered-requires : goal.answered-requires
 answered-requires c =

@@ -28,3 +28,4 @@ returns c =
     (subst (λ (ts : List Token). Settles c.turn.new.self of_nothing ts) c.first-turn.ensures.ready.holds c.turn.ensures.settles) c.turn.ensures.goes
     (λ rest f x. subst (λ closes. FirstTurn f c.first-turn.result closes) rests.closing
     (c.first-turn.ensures.turns rest f (subst (λ (i : Inbox). HoldsWhole i rest f) (sym rests.same.inbox) x)))
+    (λ o. c.first_turns_are_within.ensures c.first-turn.result c.first-turn.ensures.ready o) c.turn.ensures.less

@@ -3,6 +3,7 @@ use Rattle.std.specs.Prelude.{Err}
 use Rattle.conn_script.specs.declared.wants.ConnFault.TheVariants as faults
 use Rattle.hub_conn.proofs.FeedLemmas.{reading_some, feeds_came, feeds_came_broke}
 use Rattle.hub_conn.proofs.StateLemmas.{done_settles}
+use Rattle.hub_conn.proofs.WorkLemmas.{came_less}
 use Rattle.hub_conn.proofs.talk.Talk.came.Goals as goal
 
 pub add-requires : goal.add-requires
@@ -16,6 +17,7 @@ returns-in-Ok c =
     feeds_came (λ limits buf more h parts behind x. c.stays.ensures.whole limits buf more h parts behind x) (λ limits buf h k x y. c.one_head.ensures.one limits buf h k x y)
     (λ limits buf more h x. c.one_head.ensures.stays limits buf more h x) c.args.self.now _ c.look.new.self c.args.piece c.requires.reading c.look.ensures.settles
     (λ own bytes steps written x. c.look.ensures.looks own bytes steps written x) (λ rest x. c.in-Ok.ensures rest x) refl refl refl refl refl c.requires.room
+    (came_less c.args.self.now c.look.new.self c.args.piece c.args.self.now.continued c.requires.reading c.requires.room c.look.ensures.less)
 
 pub returns-in-Err : goal.returns-in-Err
 returns-in-Err c =

@@ -8,6 +8,8 @@ use Rattle.hub_conn.specs.declared.talk.Kept.TheVariants as kept
 use Rattle.hub_conn.specs.Talk.{of_nothing}
 use Rattle.hub_conn.proofs.LookLemmas.{refuses_so, refuse_broke}
 use Rattle.hub_conn.proofs.StateLemmas.{done_settles, settles_in}
+use Rattle.std.proofs.Common.{ap, length, arith}
+use Rattle.hub_conn.proofs.WorkLemmas.{done_leaves, refused_leaves}
 use Rattle.hub_conn.proofs.talk.Talk.refuse.Goals as goal
 
 pub returns-in-Ok-clause-refuses : goal.returns-in-Ok-clause-refuses
@@ -24,3 +26,9 @@ returns-in-Err-clause-refuses c = refuse_broke c.args.self.now c.fail.new.self c
 
 pub returns-in-Err-clause-settles : goal.returns-in-Err-clause-settles
 returns-in-Err-clause-settles c = done_settles c.fail.new.self (Err faults.Memory) c.fail.ensures
+
+pub returns-in-Ok-clause-less : goal.returns-in-Ok-clause-less
+returns-in-Ok-clause-less c = refused_leaves _ (record { bytes = c.in-Ok.bytes; sent = 0; then = after.End (ends.Refused c.args.why c.args.self.now.begins); kept = kept.Nothing }) (ends.Refused c.args.why c.args.self.now.begins) refl refl (omega (arith, ap length c.as_bytes-length.ensures))
+
+pub returns-in-Err-clause-less : goal.returns-in-Err-clause-less
+returns-in-Err-clause-less c = done_leaves _ c.fail.new.self (Err faults.Memory) c.fail.ensures

@@ -4,6 +4,8 @@ use Rattle.hub_conn.specs.declared.talk.State.TheVariants as states
 use Rattle.hub_conn.specs.Talk.{of_nothing}
 use Rattle.hub_conn.proofs.WriteLemmas.{responds}
 use Rattle.hub_conn.proofs.StateLemmas.{settles_in}
+use Rattle.std.proofs.Common.{ap, length}
+use Rattle.hub_conn.proofs.WorkLemmas.{responded_leaves}
 use Rattle.hub_conn.proofs.talk.Talk.respond.Goals as goal
 
 pub overflow_sub-self : goal.overflow_sub-self
@@ -27,3 +29,10 @@ returns-clause-responds c =
 
 pub returns-clause-settles : goal.returns-clause-settles
 returns-clause-settles c = settles_in _ (states.Writing (record { bytes = c.args.bytes; sent = 0; then = c.next_after-then.result; kept = c.args.kept })) of_nothing [] refl refl refl refl
+
+pub returns-clause-less : goal.returns-clause-less
+returns-clause-less c =
+    let a = c.requires in
+    let l = c.next-left.ensures a.0 a.1 a.2 in
+    responded_leaves c.args.self.now _ c.args.bytes c.next_after-then.result c.args.kept c.next-left.result (length a.0) refl refl refl a.4
+    (omega (arith, l.3, c.stays.ensures.some LIMITS a.0 a.1.0 a.1.1 l.0 l.1)) (omega (arith, ap length c.as_bytes-length.ensures))

@@ -11,6 +11,7 @@ use Rattle.hub_conn.specs.declared.talk.State.TheVariants as states
 use Rattle.hub_conn.specs.Talk.{Settles, IsTurned, of_nothing}
 use Rattle.hub_conn.proofs.GoLemmas.{goes_on, complete_of, short_none, short_told, broke, broke_now}
 use Rattle.hub_conn.proofs.StateLemmas.{settles_in, done_stands, done_settles}
+use Rattle.hub_conn.proofs.WorkLemmas.{goes_less, responds_less, undo_less, done_leaves}
 use Rattle.hub_conn.proofs.talk.Talk.turn.Goals as goal
 
 pub returns-in-Go-clause-goes : goal.returns-in-Go-clause-goes
@@ -93,3 +94,21 @@ returns-in-Lacks-clause-goes c = λ own bytes steps written y.
 pub returns-in-Lacks-clause-settles : goal.returns-in-Lacks-clause-settles
 returns-in-Lacks-clause-settles c =
     subst (λ (ts : List Token). Settles c.fail.new.self of_nothing ts) (sym (ap turn_tokens c.in-Lacks.is)) (done_settles c.fail.new.self (Err faults.Memory) c.fail.ensures)
+
+pub returns-in-Go-clause-less : goal.returns-in-Go-clause-less
+returns-in-Go-clause-less c = goes_less c.args.self.now _ c.args.turn c.in-Go.run' c.in-Go.short c.in-Go.is refl refl
+
+pub returns-in-Respond-clause-less : goal.returns-in-Respond-clause-less
+returns-in-Respond-clause-less c = responds_less c.args.self.now c.respond.new.self c.args.turn c.respond.ensures.less
+
+pub returns-in-RespondLast-clause-less : goal.returns-in-RespondLast-clause-less
+returns-in-RespondLast-clause-less c = responds_less c.args.self.now c.respond-in-RespondLast.new.self c.args.turn c.respond-in-RespondLast.ensures.less
+
+pub returns-in-Created-clause-less : goal.returns-in-Created-clause-less
+returns-in-Created-clause-less c = responds_less c.args.self.now c.respond-in-Created.new.self c.args.turn c.respond-in-Created.ensures.less
+
+pub returns-in-Undo-clause-less : goal.returns-in-Undo-clause-less
+returns-in-Undo-clause-less c = undo_less c.args.self.now c.undo.new.self c.args.turn c.undo.ensures.less
+
+pub returns-in-Lacks-clause-less : goal.returns-in-Lacks-clause-less
+returns-in-Lacks-clause-less c = undo_less c.args.self.now c.fail.new.self c.args.turn (done_leaves 4 c.fail.new.self (Err faults.Memory) c.fail.ensures)

@@ -8,7 +8,7 @@ use Rattle.hub_conn.proofs.talk.Talk.write_failed.Goals as goal
 pub returns-in-Writing : goal.returns-in-Writing
 returns-in-Writing c =
     feeds_broken c.args.self.now c.take_state.new.self c.broken_off.new.self c.in-Writing.out (sym c.take_state.ensures.taken ∙ c.in-Writing.is) c.take_state.ensures.rests
-    c.broken_off.ensures.settles c.broken_off.ensures.breaks
+    c.broken_off.ensures.settles c.broken_off.ensures.breaks c.broken_off.ensures.less
 
 pub returns : goal.returns
 returns c =

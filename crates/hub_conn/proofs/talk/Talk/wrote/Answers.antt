@@ -41,9 +41,9 @@ unreachable-requires c =
 pub returns-in-Continuing : goal.returns-in-Continuing
 returns-in-Continuing c =
     feeds_continued c.args.self.now c.take_state.new.self c.continued_by.new.self c.in-Continuing.sent c.args.count (sym c.take_state.ensures.taken ∙ c.in-Continuing.is)
-    c.take_state.ensures.rests c.continued_by.ensures.settles c.continued_by.ensures.goes
+    c.take_state.ensures.rests c.continued_by.ensures.settles c.continued_by.ensures.goes c.continued_by.ensures.less
 
 pub returns-in-Writing : goal.returns-in-Writing
 returns-in-Writing c =
     feeds_sent c.args.self.now c.take_state.new.self c.sent_by.new.self c.in-Writing.out c.args.count (sym c.take_state.ensures.taken ∙ c.in-Writing.is)
-    c.take_state.ensures.rests c.sent_by.ensures.settles c.sent_by.ensures.goes
+    c.take_state.ensures.rests c.sent_by.ensures.settles c.sent_by.ensures.goes c.sent_by.ensures.less
