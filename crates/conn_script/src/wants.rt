@@ -10,7 +10,7 @@ use hub_core::{
     Reservation, Ticket, Touching,
 };
 
-/// The longest piece that is read at once, in bytes.
+/// The longest piece that is read or written at once, in bytes.
 pub const PIECE: u64 = 65_536;
 
 /// How many bytes are read on a connection.

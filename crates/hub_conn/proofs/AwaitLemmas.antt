@@ -223,7 +223,7 @@ scripts_only talk a inside x no_run no_undo = by_state talk.state refl x
     by_state (states.Continuing sent) e y = hub_scripts a (count (25 - sent)) inside tt y
     by_state states.Beginning e y = hub_scripts a begun inside tt y
     by_state (states.Running r) e y = no_run r e
-    by_state (states.Writing out) e y = hub_scripts a (count (length out.bytes - out.sent)) inside tt y
+    by_state (states.Writing out) e y = hub_scripts a (count (min PIECE (length out.bytes - out.sent))) inside tt y
     by_state (states.Undoing fault u) e y = no_undo fault u e
     by_state (states.Done r) e y = hub_scripts a nothing inside tt y
 
@@ -251,7 +251,7 @@ reading_only talk a kind x = by_state talk.state refl x
     by_state (states.Continuing sent) e y = absurd (read_no a (count (25 - sent)) kind tt y)
     by_state states.Beginning e y = absurd (read_no a begun kind tt y)
     by_state (states.Running r) e y = absurd (read_no a (run_awaits r) kind (scripts_no_piece (run_awaits r) (run_scripts r)) y)
-    by_state (states.Writing out) e y = absurd (read_no a (count (length out.bytes - out.sent)) kind tt y)
+    by_state (states.Writing out) e y = absurd (read_no a (count (min PIECE (length out.bytes - out.sent))) kind tt y)
     by_state (states.Undoing fault u) e y = absurd (read_no a (undo_awaits u) kind (scripts_no_piece (undo_awaits u) (undo_scripts u)) y)
     by_state (states.Done r) e y = absurd (read_no a nothing kind tt y)
 

@@ -2,7 +2,7 @@
 use Rattle.std.proofs.Common.{◌≡◌, ◌≢◌, ℕ, ◌+◌, ◌-◌, ◌<◌, ◌≤◌, min, Bool, true, List, [], ◌++◌, length, take, drop, refl, sym, ap, ◌∙◌, subst, arith, append-nil, append_assoc, length-append, length-drop, inl, inr}
 use Rattle.std.specs.Borrow.{Bor}
 use Rattle.std.specs.Prelude.{Option, Ok, Err}
-use Rattle.std.proofs.lemmas.List.{nil_from_length}
+use Rattle.std.proofs.lemmas.List.{nil_from_length, take-take}
 use Rattle.httparse.specs.Grammar.{RequestHead}
 use Rattle.http_frames.specs.declared.frames.TheConstants.{LIMITS}
 use Rattle.http_frames.specs.declared.frames.FrameLimits.{FrameLimits}
@@ -32,7 +32,7 @@ use Rattle.hub_conn.specs.declared.talk.Outgoing.{Outgoing}
 use Rattle.hub_conn.specs.declared.talk.Then.{Then}
 use Rattle.hub_conn.specs.declared.talk.Then.TheVariants as after
 use Rattle.hub_conn.specs.Conversation.{Waits, Finished, MemoryBroke}
-use Rattle.hub_conn.specs.Inbox.{Holds, HoldsSome, HoldsWhole}
+use Rattle.hub_conn.specs.Inbox.{unread, Holds, HoldsSome, HoldsWhole}
 use Rattle.conn_script.specs.Work.{Outlook, turn_work, undo_work, queue_work}
 use Rattle.hub_conn.specs.Work.{bytes_left, FeedsLess, LeavesAtMost, TurnsTo, SendsSome, ContinuesSome}
 use Rattle.hub_conn.specs.Talk.{Rests, StandsForSome, IsAnswerable, HoldsNext, IsWriting, Answered, Standing, IsBetween, IsTurned, GoesOn, HasUndone, Feeds, Settles, Cause, of_read, of_write, of_end, of_nothing, cause_of, cause_after, blamed, state_cause, tokens, state_tokens, Stands, StandsNow, awaited, state_awaits, BreaksOff, SendsBy, ContinuesBy}
@@ -99,9 +99,19 @@ no_more_written new own bytes steps written x = subst (λ (b : List ℕ). Stands
 
 -- ---- a piece
 
+least_of_two : (n a b : ℕ) → n ≤ min a b → (n ≤ a) × (n ≤ b)
+least_of_two n a b x = elim (cases_lt a b) [
+  | inl l ↦ (omega (arith, x, l), omega (arith, x, l))
+  | inr l ↦ (omega (arith, x, l), omega (arith, x, l))
+]
+
 pub reading_some : (talk : Talk) → talk.state ≡ states.Reading → StandsForSome talk → HoldsSome talk.inbox
 reading_some talk e some =
     let x = in_state_of talk states.Reading some.0 some.1 some.2 some.3 some.4 e some.5 in (x.rest, x.in_state.3)
+
+-- all bytes were read
+pub reading_all : (talk : Talk) → talk.state ≡ states.Reading → StandsForSome talk → unread talk.inbox ≡ []
+reading_all talk e some = (in_state_of talk states.Reading some.0 some.1 some.2 some.3 some.4 e some.5).in_state.8
 
 abbrev pub OneHead : Type 0
 OneHead = (limits : FrameLimits) (buf : List ℕ) (h k : RequestHead) → IsAccepted limits buf h → IsAccepted limits buf k → h ≡ k
@@ -190,6 +200,11 @@ piece_room talk p x some =
       | inl z ↦ omega (arith, x, y, z)
       | inr z ↦ omega (arith, x, y, z)
     ]
+
+pub piece_fits : (talk : Talk) (p : Bor (List ℕ)) → IsAwaited (told.Bytes p) (awaited talk) → length p.now ≤ PIECE
+piece_fits talk p x =
+    let reading = reading_only talk (told.Bytes p) tt x in
+    (least_of_two (length p.now) PIECE (LIMIT - talk.read) (awaits_at talk states.Reading (told.Bytes p) reading x)).0
 
 -- ---- the end of the input
 
@@ -365,13 +380,16 @@ feeds_write_failed old new awaits other settles failed = by_state old.state refl
     by_state (states.Undoing fault u) e a = absurd (no_count_undo u a)
     by_state (states.Done r) e a = absurd a
 
-pub feeds_sent : (old mid new : Talk) (out : Outgoing) (n : ℕ) → old.state ≡ states.Writing out → Rests old mid → Settles new of_nothing [] → SendsBy mid out n new → SendsSome mid out n new →
+pub written_within : (talk : Talk) (out : Outgoing) (n : ℕ) → talk.state ≡ states.Writing out → IsAwaited (told.Wrote n) (awaited talk) → (n ≤ PIECE) × (n ≤ length out.bytes - out.sent)
+written_within talk out n e x = least_of_two n PIECE (length out.bytes - out.sent) (awaits_at talk (states.Writing out) (told.Wrote n) e x)
+
+pub feeds_sent : (old mid new : Talk) (out : Outgoing) (n : ℕ) → old.state ≡ states.Writing out → n ≤ PIECE → Rests old mid → Settles new of_nothing [] → SendsBy mid out n new → SendsSome mid out n new →
     Feeds old (told.Wrote n) new
-feeds_sent old mid new out n e rests settles sends some =
+feeds_sent old mid new out n e few rests settles sends some =
     feeds_plain old new (told.Wrote n) (states.Writing out) of_nothing e refl refl settles refl refl (sent_feeds old mid new out n e rests some) (λ own w bytes steps written made st fits made_is.
     let x = in_state_of old (states.Writing out) own w bytes steps written e st in
     let taken : taken_of (told.Wrote n) w ≡ take n (drop out.sent out.bytes) =
-    ap (λ (z : Wanted). taken_of (told.Wrote n) z) x.wants ∙ ap (λ (t : List ℕ). take n t) x.unsent_is in
+    ap (λ (z : Wanted). taken_of (told.Wrote n) z) x.wants ∙ take-take n PIECE x.unsent few ∙ ap (λ (t : List ℕ). take n t) x.unsent_is in
     no_bytes new own bytes (steps ++ made) (written ++ taken_of (told.Wrote n) w)
     (no_step new own bytes steps made (written ++ taken_of (told.Wrote n) w) made_is
     (subst (λ (t : List ℕ). StandsNow new own bytes steps (written ++ t)) (sym taken)

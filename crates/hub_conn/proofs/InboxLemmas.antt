@@ -1,5 +1,5 @@
 -- What an inbox holds.
-use Rattle.std.proofs.Common.{◌≡◌, ◌≢◌, ℕ, ◌+◌, ◌<◌, Bool, true, false, List, [], ◌∷◌, ◌++◌, length, take, drop, refl, sym, ap, ◌∙◌, subst, arith, append-nil, append_assoc, length-drop, inl, inr}
+use Rattle.std.proofs.Common.{◌≡◌, ◌≢◌, ℕ, ◌+◌, ◌<◌, ◌≤◌, Bool, true, false, List, [], ◌∷◌, ◌++◌, length, take, drop, refl, sym, ap, ◌∙◌, subst, arith, append-nil, append_assoc, length-drop, inl, inr}
 use Rattle.std.specs.Borrow.{Bor}
 use Rattle.std.specs.List.{concat}
 use Rattle.std.proofs.lemmas.List.{take-append-drop, drop-drop}
@@ -7,11 +7,13 @@ use Rattle.http_frames.specs.declared.frames.TheConstants.{LIMITS}
 use Rattle.http_frames.specs.declared.frames.FrameLimits.{FrameLimits}
 use Rattle.http_frames.specs.declared.frames.Frame.{Frame}
 use Rattle.http_frames.specs.declared.FrameFault.{FrameFault}
+use Rattle.http_frames.specs.declared.reader.FrameReader.{FrameReader}
 use Rattle.http_frames.specs.declared.reader.ReaderStep.{ReaderStep}
 use Rattle.http_frames.specs.declared.reader.ReaderStep.TheVariants as step
 use Rattle.http_frames.specs.Chunks.{joined}
 use Rattle.http_frames.specs.Frames.{Request, End, closed, asked, Frames, IsWhole, IsAwaited, IsRefused, closes}
 use Rattle.http_frames.specs.FrameSteps.{HasParts}
+use Rattle.conn_script.specs.declared.wants.TheConstants.{PIECE}
 use Rattle.conn_script.specs.Asking.{IsOf}
 use Rattle.http_frames.specs.Feeding.{Fed, Feeds, IsReaderStep, IsWaiting, is_whole, awaits_more}
 use Rattle.hub_conn.specs.declared.inbox.Inbox.{Inbox}
@@ -29,9 +31,9 @@ sees_whole inbox frame bytes (front, read, is) told whole =
     ((x.0, x.1), (front, read, is, x.2, whole), x.3.closes)
 
 pub sees_more : (inbox : Inbox) (waits : Bool) (bytes : List ℕ) → Holds inbox bytes → Told inbox (step.More waits) → unread inbox ≡ [] →
-    (w : Bool) × IsAwaited LIMITS bytes w
+    (w : Bool) × IsAwaited LIMITS bytes w × (unread inbox ≡ [])
 sees_more inbox waits bytes (front, read, is) told none =
-    (waits, subst (λ (b : List ℕ). IsAwaited LIMITS b waits) (sym (is ∙ ap (λ (u : List ℕ). front ++ u) none ∙ append-nil front)) (told LIMITS front read.stands))
+    (waits, subst (λ (b : List ℕ). IsAwaited LIMITS b waits) (sym (is ∙ ap (λ (u : List ℕ). front ++ u) none ∙ append-nil front)) (told LIMITS front read.stands), none)
 
 pub sees_refused : (inbox : Inbox) (why : FrameFault) (bytes : List ℕ) → Holds inbox bytes → Told inbox (step.Refused why) →
     ((limits : FrameLimits) (buf more : List ℕ) (w : FrameFault) → IsRefused limits buf w → IsRefused limits (buf ++ more) w) →
@@ -101,7 +103,7 @@ leaves_rest stays old new bytes f left (front, read, is, whole, at_end) fed piec
     let same : unread new ≡ unread old = ap (λ (p : List ℕ). drop new.fed p) piece ∙ ap (λ (n : ℕ). drop n old.piece.items) at in (
       unread old,
       subst (λ (b : List ℕ). IsWhole LIMITS b f.0 f.1 (unread old)) (sym is) (stays LIMITS front (unread old) f.0 f.1 [] whole),
-      ([], record { stands = fed; within = omega (arith, read.within, at, ap length piece) }, sym same),
+      ([], record { stands = fed; within = omega (arith, read.within, at, ap length piece); fits = omega (arith, read.fits, ap length piece) }, sym same),
       left_is,
     )
 
@@ -113,6 +115,21 @@ reads_further old new bytes n (front, read, is) x piece at =
     let rest : drop n u ≡ unread new =
     drop-drop n old.fed old.piece.items ∙ ap (λ (k : ℕ). drop k old.piece.items) (sym at) ∙ ap (λ (p : List ℕ). drop new.fed p) (sym piece) in (
       front ++ take n u,
-      record { stands = x.fed LIMITS front read.stands; within = omega (arith, at, x.inside, read.within, ap length piece, length-drop old.fed old.piece.items) },
+      record { stands = x.fed LIMITS front read.stands; within = omega (arith, at, x.inside, read.within, ap length piece, length-drop old.fed old.piece.items); fits = omega (arith, read.fits, ap length piece) },
       is ∙ ap (λ (b : List ℕ). front ++ b) (sym (take-append-drop n u)) ∙ sym (append_assoc front (take n u) (drop n u)) ∙ ap (λ (b : List ℕ). (front ++ take n u) ++ b) rest,
+    )
+
+-- a piece comes behind bytes that were all read
+pub piece_comes : (old new : Inbox) (bytes piece : List ℕ) → Holds old bytes → unread old ≡ [] → length piece ≤ PIECE → new.reader ≡ old.reader →
+    new.piece.items ≡ unread old ++ piece → new.fed ≡ 0 → Holds new (bytes ++ piece)
+piece_comes old new bytes piece (front, read, is) none few reader items at =
+    let all : new.piece.items ≡ piece = items ∙ ap (λ (u : List ℕ). u ++ piece) none in
+    let unread_is : unread new ≡ piece = ap (λ (n : ℕ). drop n new.piece.items) at ∙ all in (
+      front,
+      record {
+        stands = subst (λ (r : FrameReader). Fed LIMITS r front) (sym reader) read.stands;
+        within = omega (arith, at);
+        fits = omega (arith, few, ap length all);
+      },
+      ap (λ (b : List ℕ). b ++ piece) (is ∙ ap (λ (u : List ℕ). front ++ u) none ∙ append-nil front) ∙ ap (λ (u : List ℕ). front ++ u) (sym unread_is),
     )

@@ -12,3 +12,4 @@ mod LookLemmas
 mod AwaitLemmas
 mod CallLemmas
 mod SpentLemmas
+mod KeptLemmas

@@ -1,5 +1,5 @@
 -- What is looked at between two requests.
-use Rattle.std.proofs.Common.{◌≡◌, ◌≢◌, ℕ, ◌-◌, ◌<◌, min, Bool, true, false, not, ◌&&◌, List, [], ◌++◌, length, drop, refl, sym, ap, ◌∙◌, subst, arith, append-nil}
+use Rattle.std.proofs.Common.{◌≡◌, ◌≢◌, ℕ, ◌-◌, ◌<◌, min, Bool, true, false, not, ◌&&◌, List, [], ◌++◌, length, take, drop, refl, sym, ap, ◌∙◌, subst, arith, append-nil}
 use Rattle.std.specs.Prelude.{Option, Ok, Err}
 use Rattle.httparse.specs.Grammar.{RequestHead}
 use Rattle.http_frames.specs.declared.frames.TheConstants.{LIMITS}
@@ -104,12 +104,12 @@ read_on_from old mid waits own bytes steps written x read begins frames short co
 
 pub reads_limit : WholeTakes → NoneAccepted → (old new : Talk) → old.read ≡ LIMIT → new.state ≡ states.Done (Ok (record { frames = old.frames; end = ends.Limit; short = old.short })) →
     ReadsOn old new
-reads_limit takes none old new all ended own bytes rest steps written x more =
+reads_limit takes none old new all ended own bytes rest steps written x more read =
     done_stands new (Ok (record { frames = old.frames; end = ends.Limit; short = old.short })) own bytes steps written ended
     (talked_limit takes none old own bytes rest steps written x more (sym x.counts.read ∙ all))
 
 pub reads_more_of : (old new : Talk) → old.read ≢ LIMIT → new.state ≡ states.Reading → Rests old new → ReadsOn old new
-reads_more_of old new other state rests own bytes rest steps written x more =
+reads_more_of old new other state rests own bytes rest steps written x more read =
     let few : new.read < LIMIT = omega (arith, rests.same.read, other, x.counts.within) in (
       to_read (min PIECE (LIMIT - new.read)),
       stands_in new states.Reading own (to_read (min PIECE (LIMIT - new.read))) bytes steps written state (record {
@@ -135,6 +135,7 @@ reads_more_of old new other state rests own bytes rest steps written x more =
           more,
           refl,
           refl,
+          subst (λ (i : Inbox). unread i ≡ []) (sym rests.same.inbox) read,
         );
       }),
     )
@@ -145,8 +146,8 @@ pub refuses_so : WholeTakes → (old new : Talk) (why : FrameFault) (text : List
     new.state ≡ states.Writing (record { bytes = text; sent = 0; then = after.End (ends.Refused why old.begins); kept = kept.Nothing }) →
     SameBut old new → new.short ≡ old.short → Refuses old why new
 refuses_so takes old new why text text_is state same short own bytes rest steps written x (fault, some) = (
-  to_write text,
-  stands_in new (states.Writing (record { bytes = text; sent = 0; then = after.End (ends.Refused why old.begins); kept = kept.Nothing })) own (to_write text) bytes steps written state
+  to_write (take PIECE text),
+  stands_in new (states.Writing (record { bytes = text; sent = 0; then = after.End (ends.Refused why old.begins); kept = kept.Nothing })) own (to_write (take PIECE text)) bytes steps written state
       (record {
         unsent = text;
         unsent_is = refl;
@@ -159,6 +160,7 @@ refuses_so takes old new why text text_is state same short own bytes rest steps 
               (subst (λ (t : List ℕ). Talked own (record { frames = old.frames; end = ends.Refused why old.begins; short = old.short }) bytes steps (written ++ t)) (sym text_is)
               (talked_refused takes old own bytes rest steps written why x some fault))),
           refl,
+          (rest, subst (λ (i : Inbox). Holds i rest) (sym same.inbox) x.holds),
         );
         breaks = λ taken left undone is more none. refusal_breaks old own bytes rest steps written why x fault taken left undone (sym text_is ∙ is) more none;
       }),

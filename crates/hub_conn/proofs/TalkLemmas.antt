@@ -1,8 +1,9 @@
 -- What a connection says in each state, and what each answer does.
-use Rattle.std.proofs.Common.{◌≡◌, ℕ, ◌-◌, ◌<◌, min, Bool, true, false, List, [], ◌++◌, length, drop, refl, sym, ap, ◌∙◌, subst, arith, append-nil, length-drop, inl, inr}
+use Rattle.std.proofs.Common.{◌≡◌, ℕ, ◌-◌, ◌<◌, ◌≤◌, min, Bool, true, false, List, [], ◌++◌, length, take, drop, refl, sym, ap, ◌∙◌, subst, arith, append-nil, length-drop, inl, inr}
 use Rattle.std.specs.Borrow.{Bor}
 use Rattle.std.specs.Prelude.{Option, Result, Err}
 use Rattle.std.proofs.lemmas.Bool.{cases_lt}
+use Rattle.std.proofs.lemmas.List.{length-take}
 use Rattle.http_frames.specs.declared.frames.TheConstants.{LIMITS}
 use Rattle.http_frames.specs.declared.frames.FrameLimits.{FrameLimits}
 use Rattle.http_frames.specs.Frames.{Request, IsAwaited}
@@ -29,7 +30,7 @@ use Rattle.hub_conn.specs.declared.talk.State.{State}
 use Rattle.hub_conn.specs.declared.talk.State.TheVariants as states
 use Rattle.hub_conn.specs.declared.talk.Outgoing.{Outgoing}
 use Rattle.hub_conn.specs.Conversation.{MemoryBroke, before_request, Waits, none as none_yet}
-use Rattle.hub_conn.specs.Inbox.{Holds, HoldsWhole}
+use Rattle.hub_conn.specs.Inbox.{unread, Holds, HoldsWhole}
 use Rattle.hub_conn.specs.Talk.{Rests, Answered, Standing, awaited, state_awaits, held, state_held, tokens, state_tokens, Cause, result_cause, blamed, state_cause, HandsOut, Says, Takes, IsHeld, IsNew, Settles, of_nothing}
 use Rattle.hub_conn.proofs.ReadLemmas.{WholeTakes, reads_begins}
 use Rattle.hub_conn.proofs.StateLemmas.{stands_in, in_state_of, counts_kept, settles_in}
@@ -66,6 +67,13 @@ min_some a b x y =
       | inr l ↦ omega (arith, x, y, l)
     ]
 
+min_most : (a b : ℕ) → min a b ≤ a
+min_most a b =
+    elim (cases_lt a b) [
+      | inl l ↦ omega (arith, l)
+      | inr l ↦ omega (arith, l)
+    ]
+
 pub hands_read : WholeTakes → NoneAccepted → (talk : Talk) (most : ℕ) → talk.state ≡ states.Reading → most ≡ min PIECE (LIMIT - talk.read) → HandsOut talk (wants.Read most)
 hands_read takes none talk most e most_is = record {
   readies = awaits_in talk states.Reading (piece most) e (ap piece (sym most_is));
@@ -80,8 +88,13 @@ hands_read takes none talk most e most_is = record {
         );
       };
   no_tokens = λ o. absurd o;
+  few = λ text same. absurd cc;
   blames = λ result e. absurd cc;
 }
+
+-- `100 Continue` is no longer than a piece
+few_left : (sent : ℕ) (text : List ℕ) → text ≡ drop sent (continue_text true) → length text ≤ PIECE
+few_left sent text e = omega (arith, ap length e, length-drop sent (continue_text true))
 
 pub hands_continue : (talk : Talk) (sent : ℕ) (text : Bor (List ℕ)) → talk.state ≡ states.Continuing sent → text.now ≡ drop sent (continue_text true) → sent < 25 → HandsOut talk (wants.Write text)
 hands_continue talk sent text e text_is few = record {
@@ -94,19 +107,26 @@ hands_continue talk sent text e text_is few = record {
         says = says_as (to_write text.now) w own bytes steps written w_is (omega (arith, ap length text_is, length-drop sent (continue_text true), few));
       };
   no_tokens = λ o. absurd o;
+  few = λ piece same. let is : text ≡ piece = cc in few_left sent piece.now (ap (λ (b : Bor (List ℕ)). b.now) (sym is) ∙ text_is);
   blames = λ result e. absurd cc;
 }
 
-pub hands_write : (talk : Talk) (out : Outgoing) (text : Bor (List ℕ)) → talk.state ≡ states.Writing out → text.now ≡ drop out.sent out.bytes → HandsOut talk (wants.Write text)
+pub hands_write : (talk : Talk) (out : Outgoing) (text : Bor (List ℕ)) → talk.state ≡ states.Writing out → text.now ≡ take PIECE (drop out.sent out.bytes) → HandsOut talk (wants.Write text)
 hands_write talk out text e text_is = record {
-  readies = awaits_in talk (states.Writing out) (count (length text.now)) e (ap count (sym (ap length text_is ∙ length-drop out.sent out.bytes)));
+  readies = awaits_in talk (states.Writing out) (count (length text.now)) e
+      (ap count (sym (ap length text_is ∙ length-take PIECE (drop out.sent out.bytes) ∙ ap (λ (n : ℕ). min PIECE n) (length-drop out.sent out.bytes))));
   tells = λ own w bytes steps written st.
       let x = in_state_of talk (states.Writing out) own w bytes steps written e st in
-      let w_is : w ≡ to_write text.now = x.wants ∙ ap to_write (x.unsent_is ∙ sym text_is) in record {
+      let w_is : w ≡ to_write text.now = x.wants ∙ ap to_write (ap (λ (u : List ℕ). take PIECE u) x.unsent_is ∙ sym text_is) in record {
         shows = w_is;
-        says = says_as (to_write text.now) w own bytes steps written w_is (omega (arith, ap length text_is, ap length x.unsent_is, x.some));
+        says = says_as (to_write text.now) w own bytes steps written w_is
+            (subst (λ (n : ℕ). 0 < n) (sym (ap length text_is ∙ ap (λ (u : List ℕ). length (take PIECE u)) (sym x.unsent_is) ∙ length-take PIECE x.unsent))
+            (min_some PIECE (length x.unsent) (omega arith) x.some));
       };
   no_tokens = λ o. absurd o;
+  few = λ piece same.
+      let is : text ≡ piece = cc in
+      omega (arith, ap length (ap (λ (b : Bor (List ℕ)). b.now) (sym is) ∙ text_is), length-take PIECE (drop out.sent out.bytes), min_most PIECE (length (drop out.sent out.bytes)));
   blames = λ result e. absurd cc;
 }
 
@@ -138,6 +158,7 @@ hands_begin talk e = record {
         says = says_as to_begin w own bytes steps written w_is (λ lacking lacks. begin_broke talk own w bytes steps written x lacking lacks);
       };
   no_tokens = λ o. absurd o;
+  few = λ text same. absurd cc;
   blames = λ result e. absurd cc;
 }
 
@@ -179,6 +200,7 @@ hands_run talk run whole want e asks of = record {
         says = says_nothing want w own bytes steps written shows asks.of_script;
       };
   no_tokens = λ o. absurd (no_end want asks.of_script o);
+  few = λ text same. absurd (subst IsScriptWant same asks.of_script);
   blames = λ result end. absurd (subst IsScriptWant end asks.of_script);
 }
   where
@@ -198,6 +220,7 @@ hands_undo talk fault u want e asks = record {
         says = says_nothing want w own bytes steps written shows asks.of_script;
       };
   no_tokens = λ o. absurd (no_end want asks.of_script o);
+  few = λ text same. absurd (subst IsScriptWant same asks.of_script);
   blames = λ result end. absurd (subst IsScriptWant end asks.of_script);
 }
 
@@ -210,6 +233,7 @@ hands_done talk result e = record {
         says = says_as (over result) w own bytes steps written x.0 x.1;
       };
   no_tokens = λ o. tokens_in talk (states.Done result) [] e refl;
+  few = λ text same. absurd cc;
   blames = λ r same. let is : result ≡ r = cc in ap result_cause (sym is) ∙ sym (blamed_in talk (states.Done result) (result_cause result) e refl);
 }
 
@@ -305,8 +329,8 @@ held_only talk x no_run no_undo = by_state talk.state refl x
 -- ---- a connection of which nothing was read
 
 pub new_talk : (talk : Talk) → NoneAccepted → ((limits : FrameLimits) → 0 < limits.head → IsAwaited limits [] false) → talk.state ≡ states.Reading → talk.read ≡ 0 → talk.begins ≡ 0 →
-    talk.frames ≡ 0 → talk.short ≡ false → talk.continued ≡ false → Holds talk.inbox [] → IsNew talk
-new_talk talk none empty state read begins frames short continued holds = record {
+    talk.frames ≡ 0 → talk.short ≡ false → talk.continued ≡ false → Holds talk.inbox [] → unread talk.inbox ≡ [] → IsNew talk
+new_talk talk none empty state read begins frames short continued holds unfed = record {
   fresh = settled.fresh;
   blames = settled.blames;
   no_tokens = settled.holds;
@@ -333,6 +357,7 @@ new_talk talk none empty state read begins frames short continued holds = record
       (false, empty LIMITS (omega arith)),
       refl,
       ap continue_text (sym continued),
+      unfed,
     );
   });
 }

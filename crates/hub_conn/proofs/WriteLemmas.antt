@@ -9,6 +9,7 @@ use Rattle.node_client.specs.Steps.{Step, met_want}
 use Rattle.conn_script.specs.declared.wants.End.{End}
 use Rattle.conn_script.specs.declared.wants.End.TheVariants as ends
 use Rattle.conn_script.specs.declared.wants.ConnFault.TheVariants as faults
+use Rattle.conn_script.specs.declared.wants.TheConstants.{PIECE}
 use Rattle.conn_script.specs.Responses.{Response, bytes_of, continue_text, is_last}
 use Rattle.conn_script.specs.Undo.{Undoes}
 use Rattle.conn_script.specs.Wanted.{Wanted, to_write}
@@ -21,7 +22,7 @@ use Rattle.hub_conn.specs.declared.talk.Then.TheVariants as after
 use Rattle.hub_conn.specs.declared.talk.Kept.{Kept}
 use Rattle.hub_conn.specs.declared.talk.Kept.TheVariants as kept
 use Rattle.hub_conn.specs.Conversation.{Scripts, Talked, asked, hub_spent as ends_spent, WriteBroke, in_response, in_words, interim, Words, answer_text}
-use Rattle.hub_conn.specs.Inbox.{Holds, HoldsWhole, LeavesRest}
+use Rattle.hub_conn.specs.Inbox.{Holds, HoldsSome, HoldsWhole, LeavesRest}
 use Rattle.hub_conn.specs.Talk.{SameBut, Rests, EndsUndone, Answered, Standing, Writes, IsWriting, kept_undoes, IsComplete, Keeps, IsBetween, Responds, ThenAfter, StandsNow, SendsBy, SentAll, BreaksOff}
 use Rattle.hub_conn.proofs.ReadLemmas.{WholeTakes, reads_begins, reads_more, begins_more, frames_asked}
 use Rattle.hub_conn.proofs.ScriptLemmas.{scripts_more, scripts_last, response_some}
@@ -140,8 +141,8 @@ responds takes old new text last k what_next left b following own f response byt
     let l = b.leaves x.rest f x.at_front.holds in
     let some : 0 < length text = subst (λ (t : List ℕ). 0 < length t) (sym text_is) (response_some response (closes f.0)) in
     let short : new.short ≡ met_want steps = b.short ∙ x.short in (
-      to_write text,
-      stands_in new (states.Writing (record { bytes = text; sent = 0; then = what_next; kept = k })) own (to_write text) bytes steps written b.state (record {
+      to_write (take PIECE text),
+      stands_in new (states.Writing (record { bytes = text; sent = 0; then = what_next; kept = k })) own (to_write (take PIECE text)) bytes steps written b.state (record {
         unsent = text;
         unsent_is = refl;
         some = some;
@@ -157,10 +158,10 @@ responds takes old new text last k what_next left b following own f response byt
         IsWriting what_next new own bytes steps (written ++ text)
     goes_on true closing what_next e is close l =
         subst (λ (t : Then). IsWriting t new own bytes steps (written ++ text)) (sym e)
-        (talked_spent old new own f response bytes l.0 steps written text x l.1 (sym is) b.frames (b.short ∙ x.short) text_is, refl)
+        (talked_spent old new own f response bytes l.0 steps written text x l.1 (sym is) b.frames (b.short ∙ x.short) text_is, refl, (l.0, l.2))
     goes_on false true what_next e is close l =
         subst (λ (t : Then). IsWriting t new own bytes steps (written ++ text)) (sym e)
-        (talked_asked old new own f response bytes l.0 steps written text x l.1 (sym close) (sym is) b.frames (b.short ∙ x.short) text_is, refl)
+        (talked_asked old new own f response bytes l.0 steps written text x l.1 (sym close) (sym is) b.frames (b.short ∙ x.short) text_is, refl, (l.0, l.2))
     goes_on false false what_next e is close l =
         subst (λ (t : Then). IsWriting t new own bytes steps (written ++ text)) (sym e) (
           l.0,
@@ -193,6 +194,7 @@ writing_kept old new own bytes steps same short continued (after.End end) all x 
   subst (λ (k : ℕ). Talked own (record { frames = k; end = end; short = new.short }) bytes steps all) (sym same.frames)
       (subst (λ (b : Bool). Talked own (record { frames = old.frames; end = end; short = b }) bytes steps all) (sym short) x.0),
   x.1,
+  subst (λ (i : Inbox). HoldsSome i) (sym same.inbox) x.2,
 )
 
 pub writes_kept : (old new : Talk) (out : Outgoing) (own : Option (List ℕ)) (w : Wanted) (bytes : List ℕ) (steps : List Step) (written : List ℕ) → SameBut old new →
@@ -217,8 +219,8 @@ sends_on old new out n state same short continued few own w bytes steps written 
     append_assoc written (take n (drop out.sent out.bytes)) unsent
     ∙ ap (λ (t : List ℕ). written ++ (take n (drop out.sent out.bytes) ++ t)) (sym text)
     ∙ ap (λ (t : List ℕ). written ++ t) (take-append-drop n (drop out.sent out.bytes)) ∙ ap (λ (t : List ℕ). written ++ t) (sym x.unsent_is) in (
-      to_write unsent,
-      stands_in new (states.Writing (record { bytes = out.bytes; sent = out.sent + n; then = out.then; kept = out.kept })) own (to_write unsent) bytes steps
+      to_write (take PIECE unsent),
+      stands_in new (states.Writing (record { bytes = out.bytes; sent = out.sent + n; then = out.then; kept = out.kept })) own (to_write (take PIECE unsent)) bytes steps
           (written ++ take n (drop out.sent out.bytes)) state (record {
             unsent = unsent;
             unsent_is = refl;

@@ -1,8 +1,9 @@
 -- The bytes that came and are not answered yet.
-use Rattle.std.specs.Prelude.{◌≡◌, ◌≢◌, ℕ, ◌≤◌, Bool, true, List, [], ◌++◌, length, drop}
+use Rattle.std.specs.Prelude.{◌≡◌, ◌≢◌, ℕ, ◌+◌, ◌≤◌, Bool, true, List, [], ◌++◌, length, drop}
 use Rattle.http_frames.specs.declared.frames.TheConstants.{LIMITS}
 use Rattle.http_frames.specs.Frames.{Request, IsWhole, IsAwaited, IsRefused, closes}
-use Rattle.http_frames.specs.Feeding.{Fed, awaits_more, is_whole}
+use Rattle.http_frames.specs.Feeding.{Fed, awaits_more, is_whole, bytes_kept}
+use Rattle.conn_script.specs.declared.wants.TheConstants.{PIECE}
 use Rattle.hub_conn.specs.declared.inbox.Inbox.{Inbox}
 use Rattle.hub_conn.specs.declared.inbox.Seen.{Seen}
 use Rattle.hub_conn.specs.declared.inbox.Seen.TheVariants as seen
@@ -15,6 +16,15 @@ unread inbox = drop inbox.fed inbox.piece.items
 pub record HasRead (inbox : Inbox) (front : List ℕ) : Type 0 where
   pub stands : Fed LIMITS inbox.reader front
   pub within : inbox.fed ≤ length inbox.piece.items
+  pub fits : length inbox.piece.items ≤ PIECE
+
+-- how many bytes it holds: those of the request at the front and those of the last piece
+abbrev pub keeps_bytes : Inbox → ℕ
+keeps_bytes inbox = bytes_kept inbox.reader + length inbox.piece.items
+
+-- the most that it holds: a head, a body, a chunk line or trailers, and a piece
+abbrev pub most_read : ℕ
+most_read = 16_973_824
 
 -- these bytes are not answered yet
 abbrev pub Holds : Inbox → List ℕ → Type 0
@@ -39,7 +49,7 @@ HoldsSomeWhole inbox = (bytes : List ℕ) × (f : Request) × HoldsWhole inbox b
 -- what stands at the front
 abbrev pub IsSeen : Inbox → List ℕ → Seen → Type 0
 IsSeen inbox bytes (seen.Whole closing) = (f : Request) × HoldsWhole inbox bytes f × (closing ≡ closes f.0)
-IsSeen inbox bytes seen.More = (waits : Bool) × IsAwaited LIMITS bytes waits
+IsSeen inbox bytes seen.More = (waits : Bool) × IsAwaited LIMITS bytes waits × (unread inbox ≡ [])
 IsSeen inbox bytes (seen.Refused why) = IsRefused LIMITS bytes why × (bytes ≢ [])
 
 -- the request is gone, and so many bytes stand behind it

@@ -1,5 +1,6 @@
 -- What a connection stands for, and what its calls do.
 use Rattle.std.specs.Prelude.{◌≡◌, ℕ, ◌+◌, ◌-◌, ◌<◌, ◌≤◌, min, Bool, true, false, List, [], ◌∷◌, ◌++◌, length, take, drop, Option, None, Result, Ok, Err, is_some}
+use Rattle.std.specs.Borrow.{Bor}
 use Rattle.http_frames.specs.declared.FrameFault.{FrameFault}
 use Rattle.http_frames.specs.declared.frames.TheConstants.{LIMITS}
 use Rattle.http_frames.specs.Frames as on
@@ -39,7 +40,7 @@ use Rattle.hub_conn.specs.declared.talk.Then.TheVariants as after
 use Rattle.hub_conn.specs.declared.talk.Kept.{Kept}
 use Rattle.hub_conn.specs.declared.talk.Kept.TheVariants as kept
 use Rattle.hub_conn.specs.Conversation.{WriteBroke, Answers, Scripts, Waits, Talked, Finished, IsUnended}
-use Rattle.hub_conn.specs.Inbox.{Holds, HoldsSome, HoldsWhole}
+use Rattle.hub_conn.specs.Inbox.{unread, keeps_bytes, most_read, Holds, HoldsSome, HoldsWhole}
 use Rattle.hub_conn.specs.Work.{FeedsLess, KeepsWork}
 
 -- ---- causes outside
@@ -108,6 +109,7 @@ abbrev pub InState : State → Talk → Option (List ℕ) → List ℕ → Aim �
 InState states.Reading talk own rest aim w mine written =
     (aim ≡ no_start) × (w ≡ to_read (min PIECE (LIMIT - talk.read))) × (talk.read < LIMIT) × Holds talk.inbox rest
     × Waits rest talk.continued × ((waits : Bool) × on.IsAwaited LIMITS rest waits) × (mine ≡ []) × (written ≡ continue_text talk.continued)
+    × (unread talk.inbox ≡ [])
 InState (states.Continuing sent) talk own rest aim w mine written =
     (aim ≡ no_start) × (w ≡ to_write (drop sent (continue_text true))) × (sent < 25) × Holds talk.inbox rest × Waits rest true
     × (mine ≡ []) × (written ≡ take sent (continue_text true))
@@ -148,13 +150,14 @@ IsWriting after.Next talk own bytes steps all =
     (rest : List ℕ) × Answered own talk.frames bytes rest steps all × Holds talk.inbox rest × Counts talk bytes rest × (talk.continued ≡ false)
 IsWriting (after.End end) talk own bytes steps all =
     Talked own (record { frames = talk.frames; end = end; short = talk.short }) bytes steps all × (end_cause end ≡ of_nothing)
+    × HoldsSome talk.inbox
 
--- Where a write fails, now or after more bytes were taken, what is done for the response makes the steps complete.
+-- A piece of what is left is wanted next. Where a write fails, now or after more bytes were taken, what is done for the response makes the steps complete.
 pub record Writes (talk : Talk) (out : Outgoing) (own : Option (List ℕ)) (w : Wanted) (bytes : List ℕ) (steps : List Step) (written : List ℕ) : Type 0 where
   pub unsent : List ℕ
   pub unsent_is : unsent ≡ drop out.sent out.bytes
   pub some : 0 < length unsent
-  pub wants : w ≡ to_write unsent
+  pub wants : w ≡ to_write (take PIECE unsent)
   pub short : talk.short ≡ met_want steps
   pub writing : IsWriting out.then talk own bytes steps (written ++ unsent)
   pub breaks : (taken left : List ℕ) (undone : List Step) → unsent ≡ taken ++ left → 0 < length left → kept_undoes out.kept undone →
@@ -188,7 +191,7 @@ state_awaits states.Reading read = piece (min PIECE (LIMIT - read))
 state_awaits (states.Continuing sent) read = count (25 - sent)
 state_awaits states.Beginning read = begun
 state_awaits (states.Running run) read = run_awaits run
-state_awaits (states.Writing out) read = count (length out.bytes - out.sent)
+state_awaits (states.Writing out) read = count (min PIECE (length out.bytes - out.sent))
 state_awaits (states.Undoing fault u) read = undo_awaits u
 state_awaits (states.Done result) read = nothing
 
@@ -225,6 +228,34 @@ state_tokens state = []
 -- the tokens that it holds, those of a call that is to be handed out among them
 unfoldable pub tokens : Talk → List Token
 tokens talk = state_tokens talk.state
+
+-- ---- how many bytes it holds
+
+abbrev pub state_writes : State → ℕ
+state_writes (states.Writing out) = length out.bytes
+state_writes state = 0
+
+-- the bytes of the response that is written
+unfoldable pub writes_bytes : Talk → ℕ
+writes_bytes talk = state_writes talk.state
+
+-- those of the request at the front, of the last piece, and of that response
+unfoldable pub kept_bytes : Talk → ℕ
+kept_bytes talk = keeps_bytes talk.inbox + state_writes talk.state
+
+abbrev pub is_serving_in : State → Bool
+is_serving_in (states.Undoing fault u) = false
+is_serving_in (states.Done result) = false
+is_serving_in state = true
+
+-- it is not over, and no session is ended after a fault
+unfoldable pub is_serving : Talk → Bool
+is_serving talk = is_serving_in talk.state
+
+-- so many bytes are held: the request at the front and the last piece within their limits, and the response
+pub record IsKept (talk : Talk) (count : ℕ) : Type 0 where
+  pub count_is : count ≡ kept_bytes talk
+  pub within : count ≤ most_read + writes_bytes talk
 
 -- ---- what is blamed
 
@@ -270,6 +301,7 @@ pub record HandsOut (talk : Talk) (want : Want) : Type 0 where
   pub tells : (own : Option (List ℕ)) (w : Wanted) (bytes : List ℕ) (steps : List Step) (written : List ℕ) →
       Stands talk own w bytes steps written → Tells want own w bytes steps written
   pub no_tokens : IsOver want → tokens talk ≡ []
+  pub few : (text : Bor (List ℕ)) → want ≡ wants.Write text → length text.now ≤ PIECE
   pub blames : (result : Result Served ConnFault) → want ≡ wants.Done result → result_cause result ≡ blamed talk
 
 -- a call is handed out, with its tokens; the value stands for the same, awaits the answer, and has as much left to do
@@ -365,7 +397,7 @@ LooksOn old new = (own : Option (List ℕ)) (bytes rest : List ℕ) (steps : Lis
 -- more bytes are awaited
 abbrev pub ReadsOn : Talk → Talk → Type 0
 ReadsOn old new = (own : Option (List ℕ)) (bytes rest : List ℕ) (steps : List Step) (written : List ℕ) →
-    IsReadOn old own bytes rest steps written → ((waits : Bool) × on.IsAwaited LIMITS rest waits) → StandsNow new own bytes steps written
+    IsReadOn old own bytes rest steps written → ((waits : Bool) × on.IsAwaited LIMITS rest waits) → unread old.inbox ≡ [] → StandsNow new own bytes steps written
 
 -- a fault stands in the bytes
 abbrev pub Refuses : Talk → FrameFault → Talk → Type 0

@@ -3,7 +3,8 @@ ghost use Rattle.std.specs.Prelude.{◌≡◌, ◌≤◌, ◌<◌, ◌++◌, ℕ
 ghost use Rattle.http_frames.specs.Frames.{Request};
 ghost use Rattle.http_frames.specs.FrameSteps.{HasParts};
 ghost use Rattle.http_frames.specs.Feeding.{awaits_more};
-ghost use Rattle.hub_conn.specs.Inbox.{Holds, HoldsSome, HoldsWhole, HoldsSomeWhole, IsFilled, IsSeen, LeavesRest};
+ghost use Rattle.hub_conn.specs.Inbox.{unread, keeps_bytes, most_read, Holds, HoldsSome, HoldsWhole, HoldsSomeWhole, IsFilled, IsSeen, LeavesRest};
+ghost use Rattle.conn_script.specs.declared.wants.TheConstants.{PIECE};
 ghost use Rattle.hub_conn.specs.Conversation.{Waits};
 ghost use Rattle.conn_script.specs.Asking.{IsOf};
 
@@ -44,7 +45,7 @@ fn only_part(body: Body<'_>) -> &[u8]
 }
 
 /// The bytes from the place on.
-fn behind(text: &[u8], at: usize) -> &[u8]
+pub(crate) fn behind(text: &[u8], at: usize) -> &[u8]
     requires { at ≤ length text.now }
     ensures { result.now ≡ drop at text.now }
 {
@@ -54,7 +55,8 @@ fn behind(text: &[u8], at: usize) -> &[u8]
 impl Inbox {
     /// Of a connection of which nothing was read. Takes no memory.
     pub fn new(alloc: Global) -> Inbox
-        ensures { Holds result [] }
+        ensures holds { Holds result [] }
+        ensures read { unread result ≡ [] }
     {
         Inbox {
             reader: FrameReader::new(alloc, LIMITS),
@@ -63,9 +65,18 @@ impl Inbox {
         }
     }
 
-    /// Puts a piece behind the bytes.
+    /// How many bytes it holds. Takes no memory.
+    pub fn kept(&self) -> u64
+        ensures { HoldsSome self.now → (result ≡ keeps_bytes self.now) × (result ≤ most_read) }
+    {
+        self.reader.kept().saturating_add(self.piece.len() as u64)
+    }
+
+    /// Puts a piece behind the bytes, all of which were read.
     pub fn add(&mut self, piece: &[u8]) -> Result<(), NoMemory>
-        requires { HoldsSome self.old }
+        requires read { unread self.old ≡ [] }
+        requires fits { length piece.now ≤ PIECE }
+        requires holds { HoldsSome self.old }
         ensures { OnOk result ((bytes : List ℕ) → Holds self.old bytes → Holds self.new (bytes ++ piece.now)) }
     {
         self.piece.drain(..self.fed);

@@ -1,12 +1,13 @@
 //! The machine: what it wants next, and what each answer does.
-ghost use Rattle.std.specs.Prelude.{◌≡◌, ◌≤◌, true, drop};
+ghost use Rattle.std.specs.Prelude.{◌≡◌, ◌<◌, ◌≤◌, ◌^◌, true, drop, take, length};
+ghost use Rattle.conn_script.specs.declared.wants.TheConstants.{PIECE};
 ghost use Rattle.conn_script.specs.Responses.{continue_text};
 
 mod reading;
 mod running;
 mod writing;
 
-use crate::inbox::Inbox;
+use crate::inbox::{Inbox, behind};
 use conn_script::{Answer, ConnFault, End, HubCall, LIMIT, PIECE, Run, Served, Undoing, Want};
 use grid_types::{Bytes, ReqNo, SessionId};
 use http_frames::{one_head, stays};
@@ -38,6 +39,27 @@ struct Outgoing {
     sent: usize,
     then: Then,
     kept: Kept,
+}
+
+impl Outgoing {
+    /// The bytes that are to be taken next.
+    fn piece(&self) -> &[u8]
+        requires { self.now.sent ≤ length self.now.bytes }
+        ensures { result.now ≡ take PIECE (drop self.now.sent self.now.bytes) }
+    {
+        front(behind(self.bytes.as_bytes(), self.sent), PIECE as usize)
+    }
+}
+
+/// At most so many of the bytes, the first ones.
+fn front(text: &[u8], most: usize) -> &[u8]
+    ensures { result.now ≡ take most text.now }
+{
+    if most < text.len() {
+        &text[..most]
+    } else {
+        text
+    }
 }
 
 #[derive(Drop)]
@@ -85,10 +107,10 @@ fn continue_from(sent: usize) -> &'static [u8]
     &CONTINUE[sent..]
 }
 
-#[tactic(auto, unfolding(crate::specs::Talk::Stands, crate::specs::Talk::is_fresh, crate::specs::Talk::awaited, crate::specs::Talk::held, crate::specs::Talk::blamed, crate::specs::Talk::tokens))]
+#[tactic(auto, unfolding(crate::specs::Talk::Stands, crate::specs::Talk::is_fresh, crate::specs::Talk::awaited, crate::specs::Talk::held, crate::specs::Talk::blamed, crate::specs::Talk::tokens, crate::specs::Talk::writes_bytes))]
 impl Talk {
     ghost use Rattle.conn_script.specs.Wanted.{IsAwaited};
-    ghost use Rattle.hub_conn.specs.Talk.{is_fresh, awaited, held, StandsForSome, IsNew, HandsOut, Takes, Feeds, IsHeld, Rests};
+    ghost use Rattle.hub_conn.specs.Talk.{is_fresh, awaited, held, StandsForSome, IsNew, HandsOut, Takes, Feeds, IsHeld, Rests, is_serving, writes_bytes, IsKept};
 
     /// A connection of which nothing was read. Takes no memory.
     pub fn new(alloc: Global) -> Talk
@@ -122,7 +144,7 @@ impl Talk {
             State::Continuing(sent) => Want::Write(continue_from(*sent)),
             State::Beginning => Want::Begin,
             State::Running(run) => run.wanted(self.inbox.whole()),
-            State::Writing(out) => Want::Write(&out.bytes.as_bytes()[out.sent..]),
+            State::Writing(out) => Want::Write(out.piece()),
             State::Undoing(_, undoing) => undoing.wanted(),
             State::Done(result) => Want::Done(*result),
         }
@@ -164,6 +186,25 @@ impl Talk {
             Answer::Hub(answer) => self.answered(answer),
             Answer::Node(came) => self.exchanged(came),
             Answer::Paused => self.paused(),
+        }
+    }
+
+    /// How many bytes it holds: those of the request at the front, of the last piece that was read, and of the response that
+    /// is written. Takes no memory.
+    pub fn kept(&self) -> u64
+        ensures { is_serving self.now ≡ true → StandsForSome self.now → IsKept self.now result }
+    {
+        self.inbox.kept().saturating_add(self.response_len())
+    }
+
+    /// The bytes of the response that is written.
+    fn response_len(&self) -> u64
+        ensures count { result ≡ writes_bytes self.now }
+        ensures few { result < 2 ^ 63 }
+    {
+        match &self.state {
+            State::Writing(out) => out.bytes.as_bytes().len() as u64,
+            _ => 0,
         }
     }
 

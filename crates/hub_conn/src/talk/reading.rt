@@ -2,7 +2,7 @@
 ghost use Rattle.std.specs.Prelude.{◌≡◌, ◌≤◌, ◌+◌, ◌&&◌, not, [], length};
 ghost use Rattle.hub_conn.specs.Work.{bytes_left, read_work, begin_work, look_work, LeavesAtMost};
 ghost use Rattle.conn_script.specs.declared.wants.Answer.TheVariants as told;
-ghost use Rattle.conn_script.specs.declared.wants.TheConstants.{LIMIT};
+ghost use Rattle.conn_script.specs.declared.wants.TheConstants.{LIMIT, PIECE};
 ghost use Rattle.hub_conn.specs.declared.talk.State.TheVariants as states;
 ghost use Rattle.hub_conn.specs.Inbox.{HoldsSome, IsFilled};
 ghost use Rattle.hub_conn.specs.Talk.{StandsForSome, Feeds, HasFailed, HasEnded, Settles, of_nothing, Looks, LooksOn, ReadsOn, Refuses};
@@ -17,6 +17,7 @@ impl Talk {
     pub(super) fn came(&mut self, piece: &[u8])
         requires reading { self.old.state ≡ states.Reading }
         requires stands { StandsForSome self.old }
+        requires fits { length piece.now ≤ PIECE }
         requires room { length piece.now + self.old.read ≤ LIMIT }
         ensures { Feeds self.old (told.Bytes piece.entry) self.new }
     {

@@ -1,13 +1,16 @@
 use Rattle.std.proofs.Common.{◌++◌, refl}
 use Rattle.std.specs.Prelude.{Err}
 use Rattle.conn_script.specs.declared.wants.ConnFault.TheVariants as faults
-use Rattle.hub_conn.proofs.FeedLemmas.{reading_some, feeds_came, feeds_came_broke}
+use Rattle.hub_conn.proofs.FeedLemmas.{reading_some, reading_all, feeds_came, feeds_came_broke}
 use Rattle.hub_conn.proofs.StateLemmas.{done_settles}
 use Rattle.hub_conn.proofs.WorkLemmas.{came_less}
 use Rattle.hub_conn.proofs.talk.Talk.came.Goals as goal
 
-pub add-requires : goal.add-requires
-add-requires c = let h = reading_some c.args.self.now c.requires.reading c.requires.stands in (h.0, h.1)
+pub add-requires-clause-read : goal.add-requires-clause-read
+add-requires-clause-read c = reading_all c.args.self.now c.requires.reading c.requires.stands
+
+pub add-requires-clause-holds : goal.add-requires-clause-holds
+add-requires-clause-holds c = let h = reading_some c.args.self.now c.requires.reading c.requires.stands in (h.0, h.1)
 
 pub look-requires : goal.look-requires
 look-requires c = let h = reading_some c.args.self.now c.requires.reading c.requires.stands in (h.0 ++ c.args.piece.now, c.in-Ok.ensures h.0 h.1)

@@ -9,7 +9,9 @@ use Rattle.hub_conn.proofs.WorkLemmas.{reads_leave, leaves_in}
 use Rattle.hub_conn.proofs.talk.Talk.look_on.Goals as goal
 
 pub returns-in-More-clause-looks : goal.returns-in-More-clause-looks
-returns-in-More-clause-looks c = λ own bytes rest steps written x. c.read_on.ensures.reads own bytes rest steps written x (c.in-More.ensures c.requires.filled rest x.holds)
+returns-in-More-clause-looks c = λ own bytes rest steps written x.
+    let more = c.in-More.ensures c.requires.filled rest x.holds in
+    c.read_on.ensures.reads own bytes rest steps written x (more.0, more.1) more.2
 
 pub returns-in-Refused-clause-looks : goal.returns-in-Refused-clause-looks
 returns-in-Refused-clause-looks c = λ own bytes rest steps written x. c.refuse.ensures.refuses own bytes rest steps written x (c.in-Refused.ensures c.requires.filled rest x.holds)

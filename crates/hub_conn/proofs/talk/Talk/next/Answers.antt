@@ -1,6 +1,6 @@
 use Rattle.std.proofs.Common.{arith}
-use Rattle.hub_conn.proofs.TalkLemmas.{hands_read, hands_continue, hands_begin, hands_run, hands_done}
-use Rattle.hub_conn.proofs.FeedLemmas.{running_some, continuing_some}
+use Rattle.hub_conn.proofs.TalkLemmas.{hands_read, hands_continue, hands_write, hands_begin, hands_run, hands_done}
+use Rattle.hub_conn.proofs.FeedLemmas.{running_some, continuing_some, writing_some}
 use Rattle.hub_conn.proofs.talk.Talk.next.Goals as goal
 
 pub whole-requires : goal.whole-requires
@@ -28,3 +28,9 @@ returns-in-Beginning c = hands_begin c.args.self.now c.in-Beginning.is
 
 pub returns-in-Done : goal.returns-in-Done
 returns-in-Done c = hands_done c.args.self.now c.in-Done.result c.in-Done.is
+
+pub piece-requires : goal.piece-requires
+piece-requires c = omega (arith, (writing_some c.args.self.now c.in-Writing.out c.in-Writing.is c.requires.stands).1)
+
+pub returns-in-Writing : goal.returns-in-Writing
+returns-in-Writing c = hands_write c.args.self.now c.in-Writing.out c.piece.result c.in-Writing.is c.piece.ensures

@@ -2,7 +2,7 @@ use Rattle.std.proofs.Common.{◌∙◌, arith, sym}
 use Rattle.conn_script.specs.declared.wants.Answer.TheVariants as told
 use Rattle.hub_conn.specs.declared.talk.State.TheVariants as states
 use Rattle.hub_conn.proofs.AwaitLemmas.{awaits_at, writing_only}
-use Rattle.hub_conn.proofs.FeedLemmas.{continuing_some, writing_some, holds_kept, next_kept, feeds_sent, feeds_continued}
+use Rattle.hub_conn.proofs.FeedLemmas.{continuing_some, writing_some, holds_kept, next_kept, written_within, feeds_sent, feeds_continued}
 use Rattle.hub_conn.proofs.talk.Talk.wrote.Goals as goal
 
 pub continued_by-requires-clause-holds : goal.continued_by-requires-clause-holds
@@ -29,7 +29,7 @@ sent_by-requires-clause-within c =
     let is = sym c.take_state.ensures.taken ∙ c.in-Writing.is in
     omega (
       arith,
-      awaits_at c.args.self.now (states.Writing c.in-Writing.out) (told.Wrote c.args.count) is c.requires.awaits,
+      (written_within c.args.self.now c.in-Writing.out c.args.count is c.requires.awaits).1,
       (writing_some c.args.self.now c.in-Writing.out is c.requires.stands).1,
     )
 
@@ -46,4 +46,5 @@ returns-in-Continuing c =
 pub returns-in-Writing : goal.returns-in-Writing
 returns-in-Writing c =
     feeds_sent c.args.self.now c.take_state.new.self c.sent_by.new.self c.in-Writing.out c.args.count (sym c.take_state.ensures.taken ∙ c.in-Writing.is)
+    (written_within c.args.self.now c.in-Writing.out c.args.count (sym c.take_state.ensures.taken ∙ c.in-Writing.is) c.requires.awaits).0
     c.take_state.ensures.rests c.sent_by.ensures.settles c.sent_by.ensures.goes c.sent_by.ensures.less
