@@ -1,6 +1,6 @@
 -- Rows in the order of their sessions: where a session's row is, and that the order stays.
 use Prim.Native.Nat.{zero, suc}
-use Rattle.std.proofs.Common.{◌≡◌, ℕ, ◌+◌, ◌<◌, ◌≤◌, Bool, true, false, cond, not, ◌&&◌, List, [], ◌∷◌, ◌++◌, length, find, take, drop, Option, None, Some, refl, ap, sym, ◌∙◌, subst, arith}
+use Rattle.std.proofs.Common.{◌≡◌, ℕ, ◌<◌, ◌≤◌, Bool, true, false, cond, not, ◌&&◌, List, [], ◌∷◌, length, find, Option, None, Some, refl, ap, sym, ◌∙◌, subst, arith}
 use Rattle.std.specs.Prelude.{bytes_eq, filter, slice_get, is_some, slice_index_or}
 use Rattle.std.proofs.Common.{Bor, Result, Ok, Err, IsOk}
 use Rattle.std.specs.Prelude.{is_ok, if◌then◌else◌}
@@ -275,13 +275,13 @@ none-of-others s (r ∷ rows) = by_test (bytes_eq r.session s) refl (none-of-oth
     by_test false e rest = ap (λ (b : Bool). cond b (Some r) (find (is_of s) (others s rows))) e ∙ rest
 
 -- what `get` tells
-pub got : (rows : List Row) (i : ℕ) (x : Bor Row) → IsItemAt rows i (Some x) → slice_get rows i ≡ Some x.now
+pub got : {X : Type 0} (rows : List X) (i : ℕ) (x : Bor X) → IsItemAt rows i (Some x) → slice_get rows i ≡ Some x.now
 got rows i x g = slice_get-get_or rows i x.now g.3.0 ∙ ap Some (sym g.1)
 
-pub got-none : (rows : List Row) (i : ℕ) → IsItemAt rows i None → slice_get rows i ≡ None
+pub got-none : {X : Type 0} (rows : List X) (i : ℕ) → IsItemAt rows i None → slice_get rows i ≡ None
 got-none rows i g = slice_get_past rows i g.3
 
 -- what `insert` does where there is room
-pub inserted : {U E : Type 0} (r : Result U E) (done kept now : List Row) → IsOk r → now ≡ (if is_ok r then done else kept) → now ≡ done
+pub inserted : {U E : Type 0} (r : Result U E) (done kept now : List ℕ) → IsOk r → now ≡ (if is_ok r then done else kept) → now ≡ done
 inserted (Ok u) done kept now h e = e
 inserted (Err x) done kept now h e = absurd cc
