@@ -1,6 +1,6 @@
 -- What one turn of the driver of a start does.
-use Rattle.std.proofs.Common.{◌≡◌, inl, inr, ℕ, ◌≤◌, Bool, true, false, ◌&&◌, List, [], ◌∷◌, ◌++◌, refl, sym, ap, subst, ◌∙◌, arith}
-use Rattle.std.specs.Prelude.{Option, Some, None, IfSome, Ok, Err, is_some}
+use Rattle.std.proofs.Common.{◌≡◌, ℕ, Bool, true, false, ◌&&◌, List, [], ◌∷◌, ◌++◌, refl, sym, ap, subst, ◌∙◌}
+use Rattle.std.specs.Prelude.{Option, Some, None, Ok, Err, is_some}
 use Rattle.grid_types.specs.declared.capabilities.Cap.{Cap}
 use Rattle.grid_types.specs.declared.entry.FailWhy.{FailWhy}
 use Rattle.grid_types.specs.Tokens.{Reservation, Closing}
@@ -24,18 +24,13 @@ use Rattle.node_client.specs.declared.wants.CarryEnd.{CarryEnd}
 use Rattle.node_client.specs.declared.wants.CarryWant.{CarryWant}
 use Rattle.node_client.specs.declared.wants.CarryWant.TheVariants as wants
 use Rattle.node_client.specs.declared.carry.Carry.{Carry}
-use Rattle.node_client.specs.Steps.{Step, Called, Spent, Exchanged}
+use Rattle.node_client.specs.Steps.{Step, Called, Exchanged}
 use Rattle.node_client.specs.Start.{Refuses, late, node_gone, duplicate, mismatch}
-use Rattle.node_client.specs.Runs.{Exchanges, Still, Timed, pauses_after}
 use Rattle.node_client.specs.Places.{Place, at_start, at_bind, at_return, at_fail, at_quit, at_free, at_end, Wanted, to_ask, to_call, over, Shows, wanted_at, made, asked_step, called_step, IsAsk, Fits, Moves, named, failed_at_node, was_bound, to_quit, to_free, found_no_memory, was_returned, was_quit, gave_up, was_freed}
 use Rattle.node_client.specs.Carrying.{Stands, HandsOut, Takes, Feeds, Moved, Finished, FinishedAt, Bind, Fail, Freed}
-use Rattle.hub_workers.specs.Carried.{HasAt, IsOver, IsUnder, StoppedAt, Turned}
-use Rattle.hub_workers.specs.World.{Answered, AnswersAt, Knowledge, Went, World, world_of}
-
--- a clock that tells its pauses and was not asked has stood still
-told_none : (pauses : Option Pauses) (m : ℕ) → IfSome pauses (λ p. (pauses ≡ Some p) × (m ≡ m))
-told_none None m = tt
-told_none (Some p) m = (refl, refl)
+use Rattle.hub_workers.specs.Carried.{HasAt, IsOver, IsUnder, Turned}
+use Rattle.hub_workers.specs.World.{Knowledge, World, world_of}
+use Rattle.hub_workers.specs.WorldLaws.{Ticks, answers_at, went_call, went_exchange, went_spent}
 
 good_node : (v : Knowledge) (r : Reservation) (place to : Place) (came : Came) → Moves r place (answers.Node came) to → HasAt v r place → HasAt v r to
 good_node v r _ _ _ (named answer session caps says) good = good
@@ -43,60 +38,7 @@ good_node v r _ _ _ (failed_at_node came w h) good = good
 good_node v r _ _ _ (was_returned session came) good = good
 good_node v r _ _ _ (was_quit c came) good = good
 
--- what the clock gave at a call that followed
-pub record Ticks (m at m' : ℕ) (pauses pauses' : Option Pauses) : Type 0 where
-  pub later : m ≤ at
-  pub before : at ≤ m'
-  pub told : IfSome pauses (λ p. (pauses' ≡ Some p) × ((at ≡ m) × (m' ≡ m)))
-
-pub ticked : (m at m' : ℕ) (pauses pauses' : Option Pauses) → at ≡ m' → m ≤ m' → IfSome pauses (λ p. (pauses' ≡ Some p) × (m' ≡ m)) → Ticks m at m' pauses pauses'
-ticked m at m' pauses pauses' is later still = record { later = omega (arith, is, later); before = omega (arith, is); told = by_pauses pauses still }
-  where
-    by_pauses : (o : Option Pauses) → IfSome o (λ p. (pauses' ≡ Some p) × (m' ≡ m)) → IfSome o (λ p. (pauses' ≡ Some p) × ((at ≡ m) × (m' ≡ m)))
-    by_pauses None h = tt
-    by_pauses (Some p) h = (h.0, (is ∙ h.1, h.1))
-
-answers_at : (hub : SharedHub) (v : Knowledge) (call : Call) (at : ℕ) (reply : Option Reply) (w : Knowledge) → SharedServes (config_of hub) v call at reply w → AnswersAt hub v call at reply w
-answers_at hub v call at None w serves = inl serves
-answers_at hub v call at (Some reply) w serves = serves
-
 module _ {N : Type 0} (hub : SharedHub) (gives : N → List ℕ → Ask → Came → N → Type 0) where
-  -- one call of the hub
-  pub went_call : (v w : Knowledge) (n : N) (call : Call) (at : ℕ) (reply : Option Reply) (m m' : ℕ) (pauses pauses' : Option Pauses) →
-      AnswersAt hub v call at reply w → Ticks m at m' pauses pauses' →
-      Went hub gives (world_of v n m pauses) (Called call at reply ∷ []) (world_of w n m' pauses')
-  unfolding Answered Exchanges Timed Still pauses_after
-  went_call v w n call at reply m m' pauses pauses' serves ticks = record {
-    answered = (w, serves, refl);
-    asked = refl;
-    timed = (ticks.later, ticks.before);
-    told = ticks.told;
-  }
-
-  -- one that found it spent
-  pub went_spent : (v w : Knowledge) (n : N) (call : Call) (at : ℕ) (s : spent.Spent) (m m' : ℕ) (pauses pauses' : Option Pauses) →
-      IsSpent hub v s w → Ticks m at m' pauses pauses' →
-      Went hub gives (world_of v n m pauses) (Spent call at ∷ []) (world_of w n m' pauses')
-  unfolding Answered Exchanges Timed Still pauses_after
-  went_spent v w n call at s m m' pauses pauses' is ticks = record {
-    answered = (w, s, is, refl);
-    asked = refl;
-    timed = (ticks.later, ticks.before);
-    told = ticks.told;
-  }
-
-  -- one exchange
-  pub went_exchange : (v : Knowledge) (n n' : N) (address : List ℕ) (ask : Ask) (came : Came) (m : ℕ) (pauses : Option Pauses) →
-      gives n address ask came n' →
-      Went hub gives (world_of v n m pauses) (Exchanged address ask came ∷ []) (world_of v n' m pauses)
-  unfolding Answered Exchanges Timed Still pauses_after
-  went_exchange v n n' address ask came m pauses gave = record {
-    answered = refl;
-    asked = (n', gave, refl);
-    timed = omega arith;
-    told = told_none pauses m;
-  }
-
   pub node_turn : (old new : Carry) (want : CarryWant) (address : List ℕ) (request : NodeRequest) (came : Came) (v : Knowledge) (n n' : N) (m : ℕ) (pauses : Option Pauses) →
       HandsOut old want → want ≡ wants.Node address request → Feeds old (answers.Node came) new → gives n address (ask_of request) came n' →
       Turned hub gives old (world_of v n m pauses) None new (world_of v n' m pauses)
@@ -111,7 +53,7 @@ module _ {N : Type 0} (hub : SharedHub) (gives : N → List ℕ → Ask → Came
         more = Exchanged address (ask_of request) came ∷ [];
         stands = subst (λ (xs : List Step). Stands new r moved.to (steps ++ xs)) step moved.stands;
         good = good_node v r place moved.to came moved.moves good;
-        went = went_exchange v n n' address (ask_of request) came m pauses gave;
+        went = went_exchange hub gives v n n' address (ask_of request) came m pauses gave;
       }
 
   pub call_turn : (old mid new : Carry) (call : Call) (at : ℕ) (answer : CarryAnswer) (reply : Option Reply) (v w : Knowledge) (n : N) (m m' : ℕ) (pauses pauses' : Option Pauses) →
@@ -129,7 +71,7 @@ module _ {N : Type 0} (hub : SharedHub) (gives : N → List ℕ → Ask → Came
         more = Called call at reply ∷ [];
         stands = subst (λ (xs : List Step). Stands new r moved.to (steps ++ xs)) step moved.stands;
         good = on r place moved.to moved.moves good;
-        went = went_call v w n call at reply m m' pauses pauses' (answers_at hub v call at reply w serves) ticks;
+        went = went_call hub gives v w n call at reply m m' pauses pauses' (answers_at hub v call at reply w serves) ticks;
       }
 
   pub spent_turn : (old later : Carry) (call : Call) (at : ℕ) (s : spent.Spent) (v w : Knowledge) (n : N) (m m' : ℕ) (pauses pauses' : Option Pauses) →
@@ -137,7 +79,7 @@ module _ {N : Type 0} (hub : SharedHub) (gives : N → List ℕ → Ask → Came
       IsSpent hub v s w → Ticks m at m' pauses pauses' →
       Turned hub gives old (world_of v n m pauses) (Some (Err s)) later (world_of w n m' pauses')
   spent_turn old later call at s v w n m m' pauses pauses' told is ticks = λ r place steps st.
-      record { call = call; at = at; wanted = told r place steps st; went = went_spent v w n call at s m m' pauses pauses' is ticks }
+      record { call = call; at = at; wanted = told r place steps st; went = went_spent hub gives v w n call at s m m' pauses pauses' is ticks }
 
   pub over_turn : (old : Carry) (want : CarryWant) (e : CarryEnd) (w : World N) →
       HandsOut old want → want ≡ wants.Done e → Turned hub gives old w (Some (Ok e)) old w

@@ -1,9 +1,9 @@
 -- The turns of workers and of tickers.
-use Rattle.std.proofs.Common.{◌≡◌, inl, inr, ℕ, ◌+◌, ◌<◌, ◌≤◌, Bool, true, false, not, List, [], ◌∷◌, ◌++◌, refl, sym, ap, subst, ◌∙◌, arith}
-use Rattle.std.specs.Prelude.{Option, None, Some, IfSome}
+use Rattle.std.proofs.Common.{◌≡◌, inl, inr, ℕ, ◌+◌, ◌<◌, Bool, true, false, not, List, [], ◌∷◌, ◌++◌, refl, sym, ap, subst, ◌∙◌, arith}
+use Rattle.std.specs.Prelude.{Option, None, Some}
 use Rattle.grid_types.specs.Tokens.{Reservation, Closing}
 use Rattle.grid_types.specs.Calls.{Call, Reply}
-use Rattle.grid_outside.specs.Told.{Pauses, later_by, paused}
+use Rattle.grid_outside.specs.Told.{Pauses}
 use Rattle.grid_outside.specs.declared.exchange.Ask.{Ask}
 use Rattle.grid_outside.specs.Exchanges.{Came}
 use Rattle.grid_types.specs.declared.spent.Spent as spent
@@ -12,18 +12,17 @@ use Rattle.hub_cell.specs.Passes.{IsSpent, config_of}
 use Rattle.hub_cell.specs.Shared.{LooksOnce, SharedServes}
 use Rattle.node_client.specs.Asks.{quit_ask}
 use Rattle.node_client.specs.declared.wants.CarryEnd.{CarryEnd}
-use Rattle.node_client.specs.Steps.{Step, Called, Spent, Exchanged, Paused, lacked}
-use Rattle.node_client.specs.Runs.{Exchanges, Still, Timed, pauses_after}
+use Rattle.node_client.specs.Steps.{Step, Called, Spent, Exchanged, Paused, lacked, spent_looks}
+use Rattle.node_client.specs.Runs.{Exchanges}
 use Rattle.hub_workers.specs.Carried.{CarriedOff, CarriedOut}
 use Rattle.hub_workers.specs.Turns.{AfterSweep, AfterSweepSpent, AllEnd, AsksAndFrees, AsksAndStops, AsksOnce, AsksToEnd, EndsIdle, EndsSo, Finishes, IdleSpent, Looked, LookedAll, StopsBefore, TickerSpent, TickerTurn, Turns, OneTurn, WentBy, Worked, WorkerSpent, WorkerTurn, asked, dispatch_lacks, dispatch_spent, ends_idle, expire_spent, finds_nothing, freed_spent, later_spent, look_spent, looks_lack, no_turn, none_yet, not_asked, one_more, one_turn_more, ends_with_pause, spent_after, start_spent, starts, sweep_lacks, sweep_spent, swept, ticker_pause, worker_pause}
-use Rattle.hub_workers.specs.World.{Answered, AnswersAt, Knowledge, Went, World, spent_looks, world_of}
+use Rattle.hub_workers.specs.World.{AnswersAt, Knowledge, Went, World, world_of}
 use Rattle.hub_workers.specs.declared.ends.WorkerEnd.{WorkerEnd}
 use Rattle.hub_workers.specs.declared.ends.WorkerEnd.TheVariants as ends
 use Rattle.hub_workers.specs.declared.ticking.Idle.{Idle}
 use Rattle.hub_workers.specs.declared.ticking.Idle.TheVariants as idle
-use Rattle.hub_workers.proofs.LookLemmas.{answered_spent, looks-both, spent_start_looks, start_looks}
-use Rattle.hub_workers.proofs.TurnLemmas.{Ticks, went_call, went_exchange, went_spent}
-use Rattle.hub_workers.proofs.WayLemmas.{went_more, went_none}
+use Rattle.hub_workers.specs.WorldLaws.{PausesFor, Ticks, answered_spent, went_call, went_exchange, went_more, went_none, went_pause, went_spent}
+use Rattle.hub_workers.proofs.LookLemmas.{looks-both, spent_start_looks, start_looks}
 
 module _ {N : Type 0} (gives : N → List ℕ → Ask → Came → N → Type 0) where
   pub asks_none : (c : Closing) (n : N) → c.quit ≡ false → AsksOnce gives c n true n
@@ -39,17 +38,7 @@ module _ {N : Type 0} (gives : N → List ℕ → Ask → Came → N → Type 0)
     (n', subst (λ (z : Ask). gives n c.address z came n') k (subst (λ (z : List ℕ). gives n z ask came n') a gave), refl),
   )
 
--- a pause of the clock
-pub record PausesFor (ms m m' : ℕ) (pauses pauses' : Option Pauses) : Type 0 where
-  pub long_enough : later_by m ms ≤ m'
-  pub told : IfSome pauses (λ p. (pauses' ≡ Some (paused ms p)) × (m' ≡ later_by m ms))
-
 module _ {N : Type 0} (hub : SharedHub) (gives : N → List ℕ → Ask → Came → N → Type 0) where
-  pub went_pause : (v : Knowledge) (n : N) (ms m m' : ℕ) (pauses pauses' : Option Pauses) → PausesFor ms m m' pauses pauses' →
-      Went hub gives (world_of v n m pauses) (Paused ms ∷ []) (world_of v n m' pauses')
-  unfolding Answered Exchanges Timed Still pauses_after
-  went_pause v n ms m m' pauses pauses' p = record { answered = refl; asked = refl; timed = (m', p.long_enough, omega arith); told = p.told }
-
   -- ---- workers
 
   pub assigned_turn : (v w : Knowledge) (n : N) (at m m' : ℕ) (pauses pauses' : Option Pauses) (r : Reservation) (e : CarryEnd) (x : World N) →
@@ -59,7 +48,7 @@ module _ {N : Type 0} (hub : SharedHub) (gives : N → List ℕ → Ask → Came
     steps = Called Call.dispatch at (Some (Reply.assigned r)) ∷ carried.steps;
     are = starts at r carried.start;
     went = went_more hub gives (world_of v n m pauses) (world_of w n m' pauses') x (Called Call.dispatch at (Some (Reply.assigned r)) ∷ []) carried.steps
-        (went_call hub gives v w n Call.dispatch at (Some (Reply.assigned r)) m m' pauses pauses' serves ticks) carried.went;
+        (went_call hub gives v w n Call.dispatch at (Some (Reply.assigned r)) m m' pauses pauses' (inl serves) ticks) carried.went;
   }
 
   pub assigned_spent : (v w : Knowledge) (n : N) (at m m' : ℕ) (pauses pauses' : Option Pauses) (r : Reservation) (x : World N) →
@@ -69,7 +58,7 @@ module _ {N : Type 0} (hub : SharedHub) (gives : N → List ℕ → Ask → Came
     steps = Called Call.dispatch at (Some (Reply.assigned r)) ∷ carried.steps;
     are = start_spent at r carried.start;
     went = went_more hub gives (world_of v n m pauses) (world_of w n m' pauses') x (Called Call.dispatch at (Some (Reply.assigned r)) ∷ []) carried.steps
-        (went_call hub gives v w n Call.dispatch at (Some (Reply.assigned r)) m m' pauses pauses' serves ticks) carried.went;
+        (went_call hub gives v w n Call.dispatch at (Some (Reply.assigned r)) m m' pauses pauses' (inl serves) ticks) carried.went;
   }
 
   call_and_pause : (v w : Knowledge) (n : N) (call : Call) (at : ℕ) (reply : Option Reply) (ms m m' k : ℕ) (pauses pauses' told : Option Pauses) →
@@ -77,7 +66,7 @@ module _ {N : Type 0} (hub : SharedHub) (gives : N → List ℕ → Ask → Came
       Went hub gives (world_of v n m pauses) (Called call at reply ∷ Paused ms ∷ []) (world_of w n k told)
   call_and_pause v w n call at reply ms m m' k pauses pauses' told serves ticks p =
       went_more hub gives (world_of v n m pauses) (world_of w n m' pauses') (world_of w n k told) (Called call at reply ∷ []) (Paused ms ∷ [])
-      (went_call hub gives v w n call at reply m m' pauses pauses' serves ticks) (went_pause w n ms m' k pauses' told p)
+      (went_call hub gives v w n call at reply m m' pauses pauses' serves ticks) (went_pause hub gives w n ms m' k pauses' told p)
 
   pub nothing_turn : (v w : Knowledge) (n : N) (at m m' k : ℕ) (pauses pauses' told : Option Pauses) →
       SharedServes (config_of hub) v Call.dispatch at (Some Reply.nothing) w → Ticks m at m' pauses pauses' → PausesFor worker_pause m' k pauses' told →
@@ -85,7 +74,7 @@ module _ {N : Type 0} (hub : SharedHub) (gives : N → List ℕ → Ask → Came
   nothing_turn v w n at m m' k pauses pauses' told serves ticks p = record {
     steps = Called Call.dispatch at (Some Reply.nothing) ∷ Paused worker_pause ∷ [];
     are = finds_nothing at;
-    went = call_and_pause v w n Call.dispatch at (Some Reply.nothing) worker_pause m m' k pauses pauses' told serves ticks p;
+    went = call_and_pause v w n Call.dispatch at (Some Reply.nothing) worker_pause m m' k pauses pauses' told (inl serves) ticks p;
   }
 
   pub lacking_turn : (v w : Knowledge) (n : N) (at m m' k : ℕ) (pauses pauses' told : Option Pauses) →
@@ -121,7 +110,7 @@ module _ {N : Type 0} (hub : SharedHub) (gives : N → List ℕ → Ask → Came
     steps = asks.0 ++ Called (Call.freed c) at (Some Reply.is_freed) ∷ [];
     are = record { own = asks.0; at = at; asks = asks.1; steps_are = refl };
     went = went_more hub gives (world_of v n m pauses) (world_of v n' m pauses) (world_of w n' m' pauses') asks.0 (Called (Call.freed c) at (Some Reply.is_freed) ∷ [])
-        (went_asks c sent v n n' m pauses asks.0 asks.1 asks.2) (went_call hub gives v w n' (Call.freed c) at (Some Reply.is_freed) m m' pauses pauses' serves ticks);
+        (went_asks c sent v n n' m pauses asks.0 asks.1 asks.2) (went_call hub gives v w n' (Call.freed c) at (Some Reply.is_freed) m m' pauses pauses' (inl serves) ticks);
   }
 
   pub stopped_so : (c : Closing) (sent : Bool) (s : spent.Spent) (v w : Knowledge) (n n' : N) (at m m' : ℕ) (pauses pauses' : Option Pauses) →
@@ -141,7 +130,7 @@ module _ {N : Type 0} (hub : SharedHub) (gives : N → List ℕ → Ask → Came
     steps = Called Call.expire at (Some (Reply.expired c)) ∷ finishes.steps;
     are = by_found found finishes.steps finishes.are;
     went = went_more hub gives (world_of v n m pauses) (world_of w n m' pauses') x (Called Call.expire at (Some (Reply.expired c)) ∷ []) finishes.steps
-        (went_call hub gives v w n Call.expire at (Some (Reply.expired c)) m m' pauses pauses' serves ticks) finishes.went;
+        (went_call hub gives v w n Call.expire at (Some (Reply.expired c)) m m' pauses pauses' (inl serves) ticks) finishes.went;
   }
     where
       by_found : (f : Idle) (own : List Step) → Finishes c f own → Looked f (Called Call.expire at (Some (Reply.expired c)) ∷ own)
@@ -156,7 +145,7 @@ module _ {N : Type 0} (hub : SharedHub) (gives : N → List ℕ → Ask → Came
   looked_over v w n at m m' pauses pauses' serves ticks = record {
     steps = Called Call.expire at (Some Reply.nothing) ∷ [];
     are = (at, refl);
-    went = went_call hub gives v w n Call.expire at (Some Reply.nothing) m m' pauses pauses' serves ticks;
+    went = went_call hub gives v w n Call.expire at (Some Reply.nothing) m m' pauses pauses' (inl serves) ticks;
   }
 
   pub looked_lacks : (v w : Knowledge) (n : N) (at m m' : ℕ) (pauses pauses' : Option Pauses) → LooksOnce v w → Ticks m at m' pauses pauses' →
@@ -187,7 +176,7 @@ module _ {N : Type 0} (hub : SharedHub) (gives : N → List ℕ → Ask → Came
   paused_after u w n m m' pauses pauses' p q = record {
     steps = p.steps ++ Paused ticker_pause ∷ [];
     are = ends_with_pause p.are;
-    went = went_more hub gives u (world_of w n m pauses) (world_of w n m' pauses') p.steps (Paused ticker_pause ∷ []) p.went (went_pause w n ticker_pause m m' pauses pauses' q);
+    went = went_more hub gives u (world_of w n m pauses) (world_of w n m' pauses') p.steps (Paused ticker_pause ∷ []) p.went (went_pause hub gives w n ticker_pause m m' pauses pauses' q);
   }
 
   pub lacks_after : (u w : World N) → WentBy hub gives (LookedAll idle.Lacks) u w → WentBy hub gives AfterSweep u w
@@ -203,13 +192,13 @@ module _ {N : Type 0} (hub : SharedHub) (gives : N → List ℕ → Ask → Came
     steps = Called Call.sweep at (Some reply) ∷ p.steps;
     are = swept at reply p.are;
     went = went_more hub gives (world_of v n m pauses) (world_of w n m' pauses') x (Called Call.sweep at (Some reply) ∷ []) p.steps
-        (went_call hub gives v w n Call.sweep at (Some reply) m m' pauses pauses' serves ticks) p.went;
+        (went_call hub gives v w n Call.sweep at (Some reply) m m' pauses pauses' (inl serves) ticks) p.went;
   }
   swept_turn (Some s) v w n at m m' pauses pauses' reply x serves ticks p = record {
     steps = Called Call.sweep at (Some reply) ∷ p.steps;
     are = later_spent at reply p.are;
     went = went_more hub gives (world_of v n m pauses) (world_of w n m' pauses') x (Called Call.sweep at (Some reply) ∷ []) p.steps
-        (went_call hub gives v w n Call.sweep at (Some reply) m m' pauses pauses' serves ticks) p.went;
+        (went_call hub gives v w n Call.sweep at (Some reply) m m' pauses pauses' (inl serves) ticks) p.went;
   }
 
   pub swept_none : (v w : Knowledge) (n : N) (at m m' : ℕ) (pauses pauses' : Option Pauses) → LooksOnce v w → Ticks m at m' pauses pauses' →

@@ -1,3 +1,4 @@
 pub mod Carried
 pub mod Turns
 pub mod World
+pub mod WorldLaws

@@ -1,5 +1,5 @@
 -- The turns of workers and of tickers.
-use Rattle.std.specs.Prelude.{◌≡◌, ◌⊎◌, ℕ, ◌+◌, ◌<◌, Bool, true, false, not, List, [], ◌∷◌, ◌++◌, Option, None, Some, Err}
+use Rattle.std.specs.Prelude.{◌≡◌, ◌⊎◌, ℕ, ◌+◌, ◌<◌, Bool, true, false, not, List, [], ◌∷◌, ◌++◌, Option, None, Some}
 use Rattle.grid_types.specs.Tokens.{Reservation, Closing}
 use Rattle.grid_types.specs.Calls.{Call, Reply}
 use Rattle.grid_outside.specs.declared.exchange.Ask.{Ask}

@@ -1,6 +1,9 @@
 -- What the steps of a pass say of the shared hub, of the nodes and of the clock.
-use Rattle.std.specs.Prelude.{◌≡◌, ◌⊎◌, ℕ, ◌+◌, Bool, true, false, List, [], ◌∷◌, Option, None, Some, IfSome}
+use Rattle.std.specs.Prelude.{◌≡◌, ◌⊎◌, ℕ, Bool, true, false, List, [], ◌∷◌, Option, None, Some, IfSome}
 use Rattle.grid_types.specs.Calls.{Call, Reply}
+use Rattle.grid_types.specs.declared.entry.Found.TheVariants as found
+use Rattle.grid_types.specs.LookupMap.{Item, changes, find}
+use Rattle.grid_types.specs.Sessions.{found_of}
 use Rattle.grid_outside.specs.Told.{Pauses}
 use Rattle.grid_outside.specs.declared.exchange.Ask.{Ask}
 use Rattle.grid_outside.specs.Exchanges.{Came}
@@ -9,7 +12,8 @@ use Rattle.grid_types.specs.declared.spent.Spent as spent
 use Rattle.hub_cell.specs.declared.grid.Grid.{Grid}
 use Rattle.hub_cell.specs.declared.hub.SharedHub.{SharedHub}
 use Rattle.hub_cell.specs.Passes.{IsSpent, config_of}
-use Rattle.hub_cell.specs.Shared.{LooksOnce, SharedServes}
+use Rattle.hub_cell.specs.Shared.{LooksOnce, SharedServes, past}
+use Rattle.map_view.specs.Lists.{BeginsWith}
 use Rattle.node_client.specs.Runs.{Exchanges, Still, Timed, pauses_after}
 use Rattle.node_client.specs.Steps.{Step, Called, Spent, Exchanged, Paused}
 
@@ -24,12 +28,21 @@ wants_room Call.expire = true
 wants_room (Call.end session binding) = true
 wants_room call = false
 
+-- A look-up that found its session without a turn, in a list of the map's changes that begins with those of what the pass has
+-- seen.
+abbrev pub FindsInMap : Knowledge → Call → Option Reply → Knowledge → Type 0
+FindsInMap old (Call.lookup session) (Some (Reply.found (found.At slot address binding))) new =
+    (new ≡ old) × (list : List Item) × BeginsWith list (changes (past old))
+    × (found.At slot address binding ≡ found_of (find list session))
+FindsInMap old call reply new = ⊥
+
 -- The pass took one turn, at a point of the one history that begins with all that it had seen, and there the hub of one
--- thread answers so; or there was no room, and the turn made no entry.
+-- thread answers so. Or there was no room, and the turn made no entry; or a session was found without a turn.
 abbrev pub AnswersAt : SharedHub → Knowledge → Call → ℕ → Option Reply → Knowledge → Type 0
 AnswersAt hub old call at None new =
     SharedServes (config_of hub) old call at None new ⊎ ((wants_room call ≡ true) × LooksOnce old new)
-AnswersAt hub old call at (Some reply) new = SharedServes (config_of hub) old call at (Some reply) new
+AnswersAt hub old call at (Some reply) new =
+    SharedServes (config_of hub) old call at (Some reply) new ⊎ FindsInMap old call (Some reply) new
 
 -- From what the pass knew, each call was answered so, one behind the other, or found that no ticket was left; and then it
 -- knows `last`.
@@ -41,14 +54,6 @@ Answered hub known (Spent call at ∷ steps) last =
     (next : Knowledge) × (s : spent.Spent) × IsSpent hub known s next × Answered hub next steps last
 Answered hub known (Exchanged address ask came ∷ steps) last = Answered hub known steps last
 Answered hub known (Paused ms ∷ steps) last = Answered hub known steps last
-
--- how many of the steps found the hub spent
-abbrev pub spent_looks : List Step → ℕ
-spent_looks [] = 0
-spent_looks (Called call at reply ∷ steps) = spent_looks steps
-spent_looks (Spent call at ∷ steps) = spent_looks steps + 1
-spent_looks (Exchanged address ask came ∷ steps) = spent_looks steps
-spent_looks (Paused ms ∷ steps) = spent_looks steps
 
 -- what a pass knows, its nodes, the last moment of its clock, and the clock's pauses where they are told
 pub record World (N : Type 0) : Type 0 where

@@ -1,13 +1,12 @@
-use Rattle.std.proofs.Common.{◌≡◌, subst}
-use Rattle.std.specs.Prelude.{Some}
-use Rattle.grid_types.specs.Calls.{Call, Reply}
+use Rattle.std.proofs.Common.{subst}
+use Rattle.grid_types.specs.Calls.{Call}
 use Rattle.hub_core.specs.declared.answers.Expiring.{Expiring}
 use Rattle.hub_core.specs.Replies.{expiring_reply}
 use Rattle.hub_cell.specs.declared.hub.CellFault.{CellFault}
 use Rattle.hub_cell.specs.Passes.{IsFault, config_of, knows}
 use Rattle.hub_cell.specs.Shared.{SharedServes}
 use Rattle.hub_workers.specs.Turns.{IdleSpent, expire_spent}
-use Rattle.hub_workers.proofs.TurnLemmas.{ticked}
+use Rattle.hub_workers.specs.WorldLaws.{ticked}
 use Rattle.hub_workers.proofs.WorkLemmas.{looked_expired, looked_lacks, looked_over, one_spent}
 use Rattle.hub_workers.proofs.ticking.end_idle.Goals as goal
 

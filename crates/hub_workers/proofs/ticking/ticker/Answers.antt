@@ -1,4 +1,4 @@
-use Rattle.std.proofs.Common.{rules, arith}
+use Rattle.std.proofs.Common.{rules}
 use Rattle.hub_workers.specs.Turns.{TickerSpent, TickerTurn}
 use Rattle.hub_workers.specs.declared.ends.WorkerEnd.TheVariants as ends
 use Rattle.hub_workers.proofs.WorkLemmas.{turns_all, turns_more, turns_none, turns_stop, ticker_count}

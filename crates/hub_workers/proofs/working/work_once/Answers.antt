@@ -1,12 +1,11 @@
-use Rattle.std.proofs.Common.{◌≡◌, subst}
-use Rattle.std.specs.Prelude.{Err, Ok, Result, Some}
-use Rattle.grid_types.specs.Calls.{Call, Reply}
+use Rattle.std.proofs.Common.{subst}
+use Rattle.grid_types.specs.Calls.{Call}
 use Rattle.hub_core.specs.declared.answers.Dispatched.{Dispatched}
 use Rattle.hub_core.specs.Replies.{dispatched_reply}
 use Rattle.hub_cell.specs.Passes.{config_of, knows}
 use Rattle.hub_cell.specs.Shared.{SharedServes}
 use Rattle.hub_workers.specs.Turns.{WorkerSpent, dispatch_spent}
-use Rattle.hub_workers.proofs.TurnLemmas.{ticked}
+use Rattle.hub_workers.specs.WorldLaws.{ticked}
 use Rattle.hub_workers.proofs.WorkLemmas.{assigned_spent, assigned_turn, lacking_turn, nothing_turn, one_spent}
 use Rattle.hub_workers.proofs.working.work_once.Goals as goal
 

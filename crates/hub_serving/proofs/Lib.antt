@@ -1,0 +1,4 @@
+mod OnwardLemmas
+mod CallLemmas
+mod TurnLemmas
+mod ServedLemmas
