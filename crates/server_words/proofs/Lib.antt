@@ -1,3 +1,4 @@
+pub mod AttachLemmas
 pub mod Accepted
 pub mod Building
 pub mod Limits

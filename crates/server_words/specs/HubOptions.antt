@@ -1,5 +1,5 @@
 -- The options of the hub's program.
-use Rattle.std.specs.Prelude.{◌*◌, List, codes, false}
+use Rattle.std.specs.Prelude.{◌*◌, ◌≤◌, List, codes, false}
 use Rattle.clap.specs.Words.{App, Row, Text, first_of, matches_of, with_rule}
 use Rattle.grid_types.specs.Config.{default_config}
 use Rattle.grid_types.specs.declared.config.HubConfig.{HubConfig}
@@ -34,6 +34,12 @@ hub_told rows = record {
   handlers = number_or 64 (first_of (codes "handlers") rows);
   workers = number_or 4 (first_of (codes "workers") rows);
 }
+
+-- counts between the limits of their options
+pub record AreWithin (words : HubWords) : Type 0 where
+  pub some_handler : 1 ≤ words.handlers
+  pub handlers : words.handlers ≤ 128
+  pub workers : words.workers ≤ 64
 
 -- what the words of the hub's program say
 abbrev pub hub_said : List Text → HubWords

@@ -1,3 +1,4 @@
+pub mod AttachOptions
 pub mod HubOptions
 pub mod NodeOptions
 pub mod Options

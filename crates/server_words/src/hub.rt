@@ -2,7 +2,7 @@
 ghost use Rattle.std.specs.Prelude.{◌≡◌, IfOk, IsErrOf};
 ghost use Rattle.grid_types.specs.Config.{IsValid};
 ghost use Rattle.clap.specs.Words.{app_of, found_of, rows_of};
-ghost use Rattle.server_words.specs.HubOptions.{hub_command, hub_said, hub_told};
+ghost use Rattle.server_words.specs.HubOptions.{AreWithin, hub_command, hub_said, hub_told};
 ghost use Rattle.server_words.specs.Options.{IsTaken, NumbersFit};
 ghost use Rattle.server_words.specs.declared.options.WordsFault.TheVariants as fault;
 
@@ -68,6 +68,7 @@ fn told(matches: &ArgMatches<'_>) -> HubWords
     requires { NumbersFit hub_command (rows_of (found_of matches.now)) }
     ensures told { result ≡ hub_told (rows_of (found_of matches.now)) }
     ensures valid { IsValid result.config }
+    ensures within { AreWithin result }
 {
     HubWords {
         port: number(matches, "port", 4_444) as u16,
@@ -83,6 +84,7 @@ pub fn hub_words(alloc: Global, words: &[Text]) -> Result<HubWords, WordsFault>
     ensures taken { IfOk result (λ _. IsTaken hub_command words.now) }
     ensures said { IfOk result (λ w. w ≡ hub_said words.now) }
     ensures valid { IfOk result (λ w. IsValid w.config) }
+    ensures within { IfOk result (λ w. AreWithin w) }
     ensures refused { IsErrOf result fault.Refused → ¬ (IsTaken hub_command words.now) }
 {
     let command = command(alloc)?;

@@ -5,10 +5,12 @@
 //! zeros: `--port +080` is port 80.
 #![tactic(auto)]
 
+mod attach;
 mod hub;
 mod node;
 mod options;
 
+pub use attach::{ATTACH_USAGE, AttachFault, AttachWords, attach_words};
 pub use hub::{HUB_USAGE, HubWords, hub_words};
 pub use node::{NODE_USAGE, NodeWords, node_words};
 pub use options::WordsFault;

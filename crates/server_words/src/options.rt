@@ -1,6 +1,6 @@
 // Options, what is read of them, and the parse of words.
-ghost use Rattle.std.specs.Prelude.{◌≡◌, ◌≢◌, ◌≤◌, ℕ, IfOk, IfSome, IsErrOf, List, Some, [], map, option_map, false, true, pos};
-ghost use Rattle.clap.specs.Words.{IsSignedIn, app_of, fault_of, first_of, found_of, is_simple_and_free, kind_of, matches_of, rows_of, rule_of};
+ghost use Rattle.std.specs.Prelude.{◌≡◌, ◌≢◌, ◌≤◌, ℕ, IfErr, IfOk, IfSome, IsErrOf, List, Some, [], map, option_map, false, true, pos};
+ghost use Rattle.clap.specs.Words.{HasKind, IsSignedIn, app_of, fault_of, first_of, found_of, is_simple_and_free, kind_of, matches_of, rows_of, rule_of};
 ghost use Rattle.server_words.specs.Options.{IsTaken, NumbersFit, number_of, number_or, text_of, text_or, truth_of, truth_or};
 ghost use Rattle.server_words.specs.declared.options.WordsFault.TheVariants as fault;
 
@@ -95,6 +95,18 @@ fn fault_for(error: &Error) -> WordsFault
     }
 }
 
+/// What the command finds in the words, or why it doesn't take them.
+pub fn matched<'a>(command: Command<'a>, words: &'a [&'a str]) -> Result<ArgMatches<'a>, Error>
+    requires { is_simple_and_free (app_of command) ≡ true }
+    ensures taken { IfOk result (λ _. IsTaken (app_of command.entry) (map (λ s. s.now) words.entry.now)) }
+    ensures rows { IfOk result (λ m. rows_of (found_of m)
+        ≡ matches_of (app_of command.entry) (map (λ s. s.now) words.entry.now)) }
+    ensures numbers { IfOk result (λ m. NumbersFit (app_of command.entry) (rows_of (found_of m))) }
+    ensures kinds { IfErr result (HasKind (fault_of (app_of command.entry) (map (λ s. s.now) words.entry.now))) }
+{
+    command.try_get_matches_from(words)
+}
+
 /// What the command finds in the words.
 pub fn found<'a>(command: Command<'a>, words: &'a [&'a str]) -> Result<ArgMatches<'a>, WordsFault>
     requires { is_simple_and_free (app_of command) ≡ true }
@@ -105,7 +117,7 @@ pub fn found<'a>(command: Command<'a>, words: &'a [&'a str]) -> Result<ArgMatche
     ensures refused { IsErrOf result fault.Refused
         → fault_of (app_of command.entry) (map (λ s. s.now) words.entry.now) ≢ [] }
 {
-    match command.try_get_matches_from(words) {
+    match matched(command, words) {
         Ok(matches) => Ok(matches),
         Err(error) => Err(fault_for(&error)),
     }

@@ -56,3 +56,32 @@ fn words_of_the_node(rt: HostRuntime) -> Result<(), Fail> {
     }
     Ok(())
 }
+
+#[test]
+fn words_of_a_driver(rt: HostRuntime) -> Result<(), Fail> {
+    let alloc = rt.alloc();
+    let given = ["--driver=localhost:4445", "--browser-version", "126.0"];
+    let words = attach_words(alloc, list(alloc, given.as_slice())?.as_slice());
+    let words = words.ok().ok_or("they fit")?;
+    assert_eq!(rt; words.hub.as_bytes(), b"127.0.0.1:4444".as_slice());
+    assert_eq!(rt; words.driver.as_bytes(), b"localhost:4445".as_slice());
+    assert_eq!(rt; words.version.as_str(), "126.0");
+    assert_eq!(rt; words.platform.as_str(), "linux");
+    let refused: [(&[&str], &str); 3] = [
+        (
+            &["--slots", "65"],
+            "error: invalid value '65' for '--slots <slots>'",
+        ),
+        (&["--name", "a b"], "error: the value of --name is"),
+        (
+            &["--driver"],
+            "error: a value is required for '--driver <driver>'",
+        ),
+    ];
+    for (words, reason) in refused {
+        let fault = attach_words(alloc, list(alloc, words)?.as_slice()).err();
+        let text = format!(in alloc; "{}", fault.ok_or("a fault")?)?;
+        assert!(rt; text.as_str().starts_with(reason));
+    }
+    Ok(())
+}

@@ -16,3 +16,9 @@ number-requires-2 c = record { small = wider _ 1 128 (omega arith) (handlers_fit
 
 pub number-requires-3 : goal.number-requires-3
 number-requires-3 c = record { small = wider _ 0 64 (omega arith) (workers_fit (rows_of (found_of c.args.matches.now)) c.requires) }
+
+pub returns-clause-within : goal.returns-clause-within
+returns-clause-within c =
+    let handlers = c.number-2.ensures.within 1 128 (handlers_fit (rows_of (found_of c.args.matches.now)) c.requires) (omega arith) (omega arith) in
+    let workers = c.number-3.ensures.within 0 64 (workers_fit (rows_of (found_of c.args.matches.now)) c.requires) (omega arith) (omega arith) in
+    record { some_handler = handlers.0; handlers = handlers.1; workers = workers.1 }

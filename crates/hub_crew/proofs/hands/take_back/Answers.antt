@@ -1,0 +1,37 @@
+use Rattle.std.proofs.Common.{◌≤◌, All, refl, sym, subst, ◌∙◌, arith}
+use Rattle.hub_cell.specs.Passes.{knows}
+use Rattle.hub_crew.specs.Hands.{MayEnd, tool_of}
+use Rattle.hub_crew.proofs.GoesLemmas.{goes_both, goes_joining}
+use Rattle.hub_crew.proofs.HireLemmas.{ended_more, rises_more, spends_more}
+use Rattle.hub_crew.proofs.ListLemmas.{all_end, all_front, given_back, one_more}
+use Rattle.hub_crew.proofs.hands.take_back.Goals as goal
+
+pub loop-preserved : goal.loop-preserved
+loop-preserved g c =
+    let i = c.loop.invariant in
+    let items = c.take_last-other.ensures.items in
+    let each = subst (λ hs. All (MayEnd c.args.hub.now) hs) items i.each in
+    let last = all_end (MayEnd c.args.hub.now) _ _ each in
+    let left = i.left in
+    let count = i.count in
+    let taken = c.take_last-other.ensures.len in
+    let pushed = c.push_reserved.ensures.len in
+    record {
+      own = c.join.ensures.own;
+      goes = goes_both (knows c.args.pass.now) (knows c.loop.pass) (knows c.join.new.pass) i.goes (goes_joining (knows c.loop.pass) (knows c.take_last-other.result.pass) (knows c.join.new.pass) c.join.ensures.view c.join.ensures.longer.0 c.join.ensures.keeps);
+      ended = ended_more (knows c.loop.pass) (knows c.take_last-other.result.pass) (knows c.join.new.pass) c.take_last-other.result _ _ _ c.join.ensures.view refl last.ended i.ended items;
+      spends_are = spends_more (knows c.loop.pass) (knows c.take_last-other.result.pass) (knows c.join.new.pass) c.take_last-other.result _ _ _ c.join.ensures.view refl i.spends_are items;
+      spent_is = rises_more _ _ _ (knows c.loop.pass) (knows c.take_last-other.result.pass) (knows c.join.new.pass) _ c.also-spent.ensures c.join.ensures.view last.spent i.spent_is;
+      tools_are = given_back tool_of _ _ _ _ _ c.take_last-other.result _ i.tools_are items c.push_reserved.ensures.items refl;
+      each = all_front (MayEnd c.args.hub.now) _ _ each;
+      left = omega (arith, taken, left);
+      count = omega (arith, pushed, count);
+      room = c.push_reserved.ensures.capacity ∙ i.room;
+      spares = λ s most sum. subst (λ z. s ≤ z) (sym c.join.ensures.spares) (one_more s _ _ _ _ i.spares most sum);
+    }
+
+pub returns-clause-spares : goal.returns-clause-spares
+returns-clause-spares g c = λ s most sum.
+    let done = c.loop-test.false in
+    let count = c.len-end.ensures in
+    c.loop.invariant.spares s most (omega (arith, sum, done, count))

@@ -1,0 +1,228 @@
+// The words of the program that puts a driver behind a hub.
+ghost use Rattle.std.specs.Prelude.{◌≡◌, ◌≢◌, ◌⊎◌, IfErr, IfOk, map, true};
+ghost use Rattle.clap.specs.Words.{app_of, found_of, is_simple_and_free, kind_of, matches_of, rows_of};
+ghost use Rattle.grid_types.specs.Names.{is_node_address};
+ghost use Rattle.server_words.specs.AttachOptions.{FitsAttach, HasCause, HasValueCause, HasWordCause, TextsFit, are_label_bytes, are_short, attach_command, attach_driver, attach_hub, attach_said, attach_told, is_label, is_short};
+ghost use Rattle.server_words.specs.Options.{IsTaken, NumbersFit};
+ghost use Rattle.server_words.specs.declared.attach.AttachFault.TheVariants as fault;
+
+use crate::options::{matched, number, number_option, text, text_option, texts};
+use clap::error::ErrorKind;
+use clap::{ArgMatches, Command, Error};
+use grid_types::{NoMemory, NodeAddress, Text};
+use std::alloc::{AllocError, Global};
+use std::fmt;
+
+/// How `grid_attach` is called.
+pub const ATTACH_USAGE: &str = "\
+usage: grid_attach [OPTION VALUE]...
+  --hub HOST:PORT             address of the hub (127.0.0.1:4444)
+  --driver HOST:PORT          address of the driver (127.0.0.1:9515)
+  --name NAME                 name of the node at the hub (driver)
+  --browser NAME              browser of its slots (chrome)
+  --browser-version VERSION   version of that browser (none is told)
+  --platform NAME             platform of its slots (linux)
+  --slots COUNT               sessions at once, 1 to 64 (1)
+";
+
+/// The most bytes of a node's name, and of what is told of its browser.
+const MOST_BYTES: usize = 64;
+
+/// What the words say.
+#[derive(Debug, Drop)]
+pub struct AttachWords {
+    /// Where the hub listens.
+    pub hub: NodeAddress,
+    /// Where the driver listens.
+    pub driver: NodeAddress,
+    /// The node's name at the hub.
+    pub name: Text,
+    /// The name of the browser of all its slots.
+    pub browser: Text,
+    /// The browser's version; none is told where it is empty.
+    pub version: Text,
+    /// The platform that the browser runs on; none is told where it is empty.
+    pub platform: Text,
+    /// How many slots it has.
+    pub slots: u16,
+}
+
+/// Why words tell nothing.
+#[derive(Debug, Drop)]
+pub enum AttachFault {
+    /// The command does not take the words.
+    Words(Error),
+    /// The hub's address is none.
+    Hub,
+    /// The driver's address is none.
+    Driver,
+    /// The name has another form than a hub takes.
+    Name,
+    /// The browser, its version or its platform is too long.
+    TooLong,
+    /// Want of memory.
+    Memory,
+}
+
+impl From<AllocError> for AttachFault {
+    ghost use Rattle.std.specs.Prelude.{◌≡◌};
+    ghost use Rattle.server_words.specs.declared.attach.AttachFault.TheVariants as fault;
+
+    ghost from_gives = { λ _ e. e ≡ fault.Memory };
+
+    fn from(_: AllocError) -> Self {
+        AttachFault::Memory
+    }
+}
+
+impl From<NoMemory> for AttachFault {
+    ghost use Rattle.std.specs.Prelude.{◌≡◌};
+    ghost use Rattle.server_words.specs.declared.attach.AttachFault.TheVariants as fault;
+
+    ghost from_gives = { λ _ e. e ≡ fault.Memory };
+
+    fn from(_: NoMemory) -> Self {
+        AttachFault::Memory
+    }
+}
+
+impl fmt::Display for AttachFault {
+    fn fmt<W: fmt::Write>(&self, f: &mut fmt::Formatter<W>) -> fmt::Result {
+        match self {
+            AttachFault::Words(error) => write!(f, "{error}"),
+            AttachFault::Hub => f.write_str("error: the value of --hub is no address"),
+            AttachFault::Driver => f.write_str("error: the value of --driver is no address"),
+            AttachFault::Name => f.write_str(
+                "error: the value of --name is not of 1 to 64 letters, digits, '-', '_' and '.'",
+            ),
+            AttachFault::TooLong => f.write_str(
+                "error: a value of --browser, --browser-version or --platform has over 64 bytes",
+            ),
+            AttachFault::Memory => f.write_str("error: out of memory"),
+        }
+    }
+}
+
+fn command<'a>(alloc: Global) -> Result<Command<'a>, AllocError>
+    ensures { IfOk result (λ c. app_of c ≡ attach_command) }
+{
+    let bare = Command::new(alloc, "grid_attach").no_binary_name(true);
+    let one = bare.arg(text_option(alloc, "hub"))?;
+    let two = one.arg(text_option(alloc, "driver"))?;
+    let three = two.arg(text_option(alloc, "name"))?;
+    let four = three.arg(text_option(alloc, "browser"))?;
+    let five = four.arg(text_option(alloc, "browser-version"))?;
+    let six = five.arg(text_option(alloc, "platform"))?;
+    let seven = six.arg(number_option(alloc, "slots", 1, 64))?;
+    Ok(seven)
+}
+
+fn are_label_bytes(bytes: &[u8]) -> bool
+    ensures { result ≡ are_label_bytes bytes.now }
+{
+    bytes.iter().all(|b| b.is_ascii_alphanumeric() || *b == b'-' || *b == b'_' || *b == b'.')
+}
+
+fn is_short(text: &str) -> bool
+    ensures { result ≡ is_short text.now }
+{
+    text.len() <= MOST_BYTES
+}
+
+/// Whether a hub takes the text as a node's name.
+fn is_label(text: &str) -> bool
+    ensures { result ≡ is_label text.now }
+{
+    !text.is_empty() && is_short(text) && are_label_bytes(text.as_bytes())
+}
+
+fn are_short(browser: &str, version: &str, platform: &str) -> bool
+    ensures { result ≡ are_short browser.now version.now platform.now }
+{
+    is_short(browser) && is_short(version) && is_short(platform)
+}
+
+/// Whether what the words set the texts to fits.
+fn texts_fit(matches: &ArgMatches<'_>) -> Result<(), AttachFault>
+    ensures fits { IfOk result (λ _. TextsFit (rows_of (found_of matches.now))) }
+    ensures why { IfErr result (λ f. HasValueCause f (rows_of (found_of matches.now))) }
+{
+    let browser = text(matches, "browser", "chrome");
+    let version = text(matches, "browser-version", "");
+    let platform = text(matches, "platform", "linux");
+    if !is_label(text(matches, "name", "driver")) {
+        return Err(AttachFault::Name);
+    }
+    if are_short(browser, version, platform) {
+        Ok(())
+    } else {
+        Err(AttachFault::TooLong)
+    }
+}
+
+fn told(alloc: Global, matches: &ArgMatches<'_>) -> Result<AttachWords, AttachFault>
+    requires { NumbersFit attach_command (rows_of (found_of matches.now)) }
+    ensures told { IfOk result (λ w. w ≡ attach_told (rows_of (found_of matches.now))) }
+    ensures hub { IfOk result (λ _. is_node_address (attach_hub (rows_of (found_of matches.now))) ≡ true) }
+    ensures driver { IfOk result (λ _. is_node_address (attach_driver (rows_of (found_of matches.now))) ≡ true) }
+    ensures texts { IfOk result (λ _. TextsFit (rows_of (found_of matches.now))) }
+    ensures why { IfErr result (λ f. HasValueCause f (rows_of (found_of matches.now))) }
+{
+    let hub = text(matches, "hub", "127.0.0.1:4444");
+    let Some(hub) = NodeAddress::from_bytes(hub.as_bytes()) else {
+        return Err(AttachFault::Hub);
+    };
+    let driver = text(matches, "driver", "127.0.0.1:9515");
+    let Some(driver) = NodeAddress::from_bytes(driver.as_bytes()) else {
+        return Err(AttachFault::Driver);
+    };
+    texts_fit(matches)?;
+    Ok(AttachWords {
+        hub,
+        driver,
+        name: Text::of(alloc, text(matches, "name", "driver"))?,
+        browser: Text::of(alloc, text(matches, "browser", "chrome"))?,
+        version: Text::of(alloc, text(matches, "browser-version", ""))?,
+        platform: Text::of(alloc, text(matches, "platform", "linux"))?,
+        slots: number(matches, "slots", 1) as u16,
+    })
+}
+
+fn fault_for(error: Error) -> AttachFault
+    ensures { (result ≡ fault.Memory) ⊎ (result ≡ fault.Words error) × (kind_of error ≢ ErrorKind.OutOfMemory) }
+{
+    if error.kind() == ErrorKind::OutOfMemory {
+        AttachFault::Memory
+    } else {
+        AttachFault::Words(error)
+    }
+}
+
+/// What the command finds in the words.
+fn found<'a>(command: Command<'a>, words: &'a [&'a str]) -> Result<ArgMatches<'a>, AttachFault>
+    requires { is_simple_and_free (app_of command) ≡ true }
+    ensures taken { IfOk result (λ _. IsTaken (app_of command.entry) (map (λ s. s.now) words.entry.now)) }
+    ensures rows { IfOk result (λ m. rows_of (found_of m)
+        ≡ matches_of (app_of command.entry) (map (λ s. s.now) words.entry.now)) }
+    ensures numbers { IfOk result (λ m. NumbersFit (app_of command.entry) (rows_of (found_of m))) }
+    ensures why { IfErr result (λ f. HasWordCause f (app_of command.entry) (map (λ s. s.now) words.entry.now)) }
+{
+    match matched(command, words) {
+        Ok(matches) => Ok(matches),
+        Err(error) => Err(fault_for(error)),
+    }
+}
+
+/// Reads the words of `grid_attach`, of which the program's name is none. What no option sets is as
+/// by default.
+pub fn attach_words(alloc: Global, words: &[Text]) -> Result<AttachWords, AttachFault>
+    ensures fits { IfOk result (λ _. FitsAttach words.now) }
+    ensures said { IfOk result (λ w. w ≡ attach_said words.now) }
+    ensures why { IfErr result (λ f. HasCause f words.now) }
+    ensures refused { IfErr result (λ f. f ≢ fault.Memory → ¬ (FitsAttach words.now)) }
+{
+    let command = command(alloc)?;
+    let texts = texts(alloc, words)?;
+    let matches = found(command, texts.as_slice())?;
+    told(alloc, &matches)
+}
