@@ -4,12 +4,11 @@
 mod attaching;
 mod driver;
 mod program;
-mod words;
+mod registering;
 
 pub use attaching::{BEAT_MS, RETRY_MS, attach};
 pub use driver::is_ready;
 pub use program::attach_main;
-pub use words::{ATTACH_USAGE, AttachWords, read_words};
 
 #[cfg(test)]
 mod tests;

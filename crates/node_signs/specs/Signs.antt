@@ -9,6 +9,8 @@ use Rattle.grid_outside.specs.declared.exchange.Ask.{Ask}
 use Rattle.grid_outside.specs.declared.exchange.Reply.TheVariants as reply
 use Rattle.grid_outside.specs.declared.exchange.ExchangeFault.TheVariants as fault
 use Rattle.grid_outside.specs.Exchanges.{Came}
+use Rattle.node_signs.specs.declared.contact.Contact.{Contact}
+use Rattle.node_signs.specs.declared.contact.Contact.TheVariants as contact
 use Rattle.node_signs.specs.declared.signs.Beat.{Beat}
 use Rattle.node_signs.specs.declared.signs.Beat.TheVariants as beat
 use Rattle.node_signs.specs.declared.signs.TheConstants.{SERVED}
@@ -90,3 +92,10 @@ BeatIs (Ok (reply.Http r)) result = result ≡ Ok (cond (nat_eq r.status SERVED)
 BeatIs (Ok (reply.NotHttp bytes)) result = result ≡ Ok beat.Unanswered
 BeatIs (Err fault.Unreachable) result = result ≡ Ok beat.Unanswered
 BeatIs (Err fault.Memory) result = IsErr result
+
+-- what came of an exchange, where it was made
+abbrev pub contact_of : Came → Option Contact
+contact_of (Ok (reply.Http r)) = Some (contact.Answered r.status)
+contact_of (Ok (reply.NotHttp bytes)) = Some contact.NotHttp
+contact_of (Err fault.Unreachable) = Some contact.Unreachable
+contact_of (Err fault.Memory) = None

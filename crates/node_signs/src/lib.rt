@@ -2,10 +2,12 @@
 #![tactic(auto)]
 
 mod body;
+mod contact;
 mod number;
 mod signs;
 
 pub use body::registration_body;
+pub use contact::Contact;
 pub use number::number_told;
 pub use signs::{Beat, SERVED, register, send_beat};
 

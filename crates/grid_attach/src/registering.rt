@@ -1,0 +1,63 @@
+// The driver as a node.
+ghost use Rattle.std.specs.Prelude.{◌≡◌, ◌∷◌, ◌++◌, [], IfOk, OnOk};
+ghost use Rattle.grid_attach.specs.Said.{node_said, offered, text_cap, told_cap};
+
+use grid_types::{Cap, CapValue, Caps, Groups, NoMemory, Registration, SlotGroup, Text};
+use server_words::AttachWords;
+use std::alloc::Global;
+
+fn push_text(alloc: Global, caps: &mut Caps, name: &str, text: &str) -> Result<(), NoMemory>
+    ensures { OnOk result (caps.new ≡ caps.old ++ text_cap name.now text.now ∷ []) }
+{
+    let cap = Cap {
+        name: Text::of(alloc, name)?,
+        value: CapValue::Text(Text::of(alloc, text)?),
+    };
+    match caps.push(cap) {
+        Ok(()) => Ok(()),
+        Err(_) => Err(NoMemory),
+    }
+}
+
+/// Tells it unless it is empty.
+fn push_told(alloc: Global, caps: &mut Caps, name: &str, text: &str) -> Result<(), NoMemory>
+    ensures { OnOk result (caps.new ≡ caps.old ++ told_cap name.now text.now) }
+{
+    if text.is_empty() {
+        Ok(())
+    } else {
+        push_text(alloc, caps, name, text)
+    }
+}
+
+fn stereotype(alloc: Global, said: &AttachWords) -> Result<Caps, NoMemory>
+    ensures { IfOk result (λ caps. caps ≡ offered said.now) }
+{
+    let mut caps = Caps::new(alloc);
+    push_text(alloc, &mut caps, "browserName", said.browser.as_str())?;
+    push_told(alloc, &mut caps, "browserVersion", said.version.as_str())?;
+    push_told(alloc, &mut caps, "platformName", said.platform.as_str())?;
+    Ok(caps)
+}
+
+/// The driver as a node.
+pub(crate) fn node(alloc: Global, said: &AttachWords) -> Result<Registration, NoMemory>
+    ensures { IfOk result (λ r. r ≡ node_said said.now) }
+{
+    let mut groups = Groups::new(alloc);
+    let group = SlotGroup {
+        stereotype: stereotype(alloc, said)?,
+        count: said.slots,
+    };
+    match groups.push(group) {
+        Ok(()) => {}
+        Err(_) => return Err(NoMemory),
+    }
+    Ok(Registration {
+        name: Text::of(alloc, said.name.as_str())?,
+        address: said.driver,
+        max_sessions: said.slots,
+        groups,
+        drain_after: None,
+    })
+}

@@ -1,0 +1,78 @@
+// What a node's exchanges come to, said on standard error when it changes.
+ghost use Rattle.std.specs.Prelude.{◌≡◌, ℕ, ◌≤◌};
+
+use grid_outside::{ExchangeFault, NodeLink, NodeRequest, Reply};
+use grid_types::NodeAddress;
+use node_signs::Contact;
+use std::alloc::Global;
+
+/// Reaches a hub and a driver by another link, and says when what they answer changes.
+#[derive(Drop)]
+pub struct ToldNodes<N: NodeLink + Drop> {
+    nodes: N,
+    runtime: HostRuntime,
+    driver: Option<Contact>,
+    hub: Option<Contact>,
+}
+
+impl<N: NodeLink + Drop> ToldNodes<N> {
+    pub fn new(nodes: N, runtime: HostRuntime) -> Self
+        ensures { result.nodes ≡ nodes }
+    {
+        ToldNodes {
+            nodes,
+            runtime,
+            driver: None,
+            hub: None,
+        }
+    }
+
+    // It works just as well where nothing can be written.
+    fn tell_driver(&mut self, contact: Contact)
+        ensures { self.new.nodes ≡ self.old.nodes }
+    {
+        if self.driver != Some(contact) {
+            self.driver = Some(contact);
+            let _ = eprintln!(self.runtime; "grid_attach: the driver {contact}");
+        }
+    }
+
+    fn tell_hub(&mut self, contact: Contact)
+        ensures { self.new.nodes ≡ self.old.nodes }
+    {
+        if self.hub != Some(contact) {
+            self.hub = Some(contact);
+            let _ = eprintln!(self.runtime; "grid_attach: the hub {contact}");
+        }
+    }
+
+    // The driver is looked at, the hub is told.
+    fn tell(&mut self, is_look: bool, contact: Contact)
+        ensures { self.new.nodes ≡ self.old.nodes }
+    {
+        if is_look {
+            self.tell_driver(contact);
+        } else {
+            self.tell_hub(contact);
+        }
+    }
+}
+
+impl<N: NodeLink + Drop> NodeLink for ToldNodes<N> {
+    ghost faults = { λ n. N.faults n.nodes };
+
+    ghost gives = { λ old address ask came new. N.gives old.nodes address ask came new.nodes };
+
+    fn exchange(
+        &mut self,
+        alloc: Global,
+        address: &NodeAddress,
+        request: &NodeRequest<'_>,
+    ) -> Result<Reply, ExchangeFault> {
+        let came = self.nodes.exchange(alloc, address, request);
+        if let Some(contact) = Contact::of(&came) {
+            self.tell(request.method == b"GET".as_slice(), contact);
+        }
+        came
+    }
+}

@@ -1,0 +1,16 @@
+#!/usr/bin/env python3
+"""Opens a page in the first browser that the hub gives, and prints its title.
+
+Usage: first_session.py [HUB]    HUB is an address as 127.0.0.1:4444, which it is by default.
+"""
+import sys
+
+from selenium import webdriver
+
+options = webdriver.ChromeOptions()
+for argument in ("--headless=new", "--no-sandbox"):
+    options.add_argument(argument)
+hub = sys.argv[1] if len(sys.argv) > 1 else "127.0.0.1:4444"
+with webdriver.Remote(f"http://{hub}", options=options) as driver:
+    driver.get("data:text/html,<title>A page</title>")
+    print(driver.title)
