@@ -1,0 +1,340 @@
+-- What goes before a request, from its parts.
+use Rattle.std.proofs.Common.{◌≡◌, ◌≢◌, ℕ, ◌<◌, ◌≤◌, Bool, true, false, List, [], ◌∷◌, ◌++◌, refl, sym, ap, subst, ◌∙◌, arith, append_assoc, append-nil, inl, inr, zero, suc, ◌+◌, length, take, drop, get_or, add-one}
+use Rattle.std.specs.Prelude.{Option, None, Some, Result, Ok, Err, OnOk, OnErr, is_err}
+use Rattle.grid_types.specs.declared.entry.Entry.{Entry}
+use Rattle.grid_types.specs.Tokens.{Closing}
+use Rattle.grid_types.specs.Calls.{Call, Reply}
+use Rattle.grid_outside.specs.Told.{Pauses}
+use Rattle.grid_outside.specs.declared.exchange.Ask.{Ask}
+use Rattle.grid_outside.specs.declared.exchange.ExchangeFault.TheVariants as fault
+use Rattle.grid_outside.specs.Exchanges.{Came}
+use Rattle.grid_types.specs.declared.text.NoMemory.{NoMemory}
+use Rattle.hub_core.specs.declared.answers.Beating.{Beating}
+use Rattle.hub_core.specs.declared.answers.Beating.TheVariants as beating
+use Rattle.hub_core.specs.Replies.{beating_reply}
+use Rattle.hub_core.specs.HubView.{HubView, past, ServesLocally}
+use Rattle.hub_core.specs.Serves.{MayCall}
+use Rattle.node_client.specs.Asks.{quit_ask}
+use Rattle.node_client.specs.Runs.{Exchanges}
+use Rattle.node_client.specs.Steps.{Step, Called, Exchanged}
+use Rattle.conn_script.specs.Begin.{asked, not_asked, Expires, none_idle, one_idle, ExpireLacks, expire_lacks, not_sent, later, Begins, swept, beaten, BeginLacks, sweep_lacks, behind_sweep, beat_lacks, behind_beat}
+use Rattle.local_driver.specs.declared.before.Idle.{Idle}
+use Rattle.local_driver.specs.declared.before.Idle.TheVariants as idle
+use Rattle.local_driver.specs.World.{World, Went, WentBy, world_of}
+use Rattle.local_driver.specs.Idles.{AsksOrLacks, AsksOnce, AsksAndFrees, EndsIdle, AllEnd, none_yet, one_more, Looked, EndsOne, live_count, is_no_lack, found_by}
+use Rattle.local_driver.specs.Beginning.{Beaten, none_beaten, beats_one, ExpiresOrLacks}
+use Rattle.local_driver.proofs.LiveLemmas.{expire_lowers}
+use Rattle.local_driver.proofs.WayLemmas.{Ticks, Serves, serves_as, serves_not, serves_roomed, went_none, went_more, went_call, went_exchange}
+
+-- ---- one session
+
+abbrev is_memory : Came → Bool
+is_memory (Err fault.Memory) = true
+is_memory came = false
+
+differ : (came other : Came) → is_memory came ≡ false → is_memory other ≡ true → came ≢ other
+differ came other a b e = let never : false ≡ true = sym a ∙ ap is_memory e ∙ b in absurd cc
+
+asks_so : (c : Closing) (came : Came) → c.quit ≡ true → AsksOrLacks c (is_no_lack came) (Exchanged c.address (quit_ask c.session) came ∷ [])
+asks_so c (Ok reply) q = asked (Ok reply) (differ (Ok reply) (Err fault.Memory) refl refl) q
+asks_so c (Err fault.Unreachable) q = asked (Err fault.Unreachable) (differ (Err fault.Unreachable) (Err fault.Memory) refl refl) q
+asks_so c (Err fault.Memory) q = (q, refl)
+
+module _ {N : Type 0} (gives : N → List ℕ → Ask → Came → N → Type 0) where
+  pub asks_none : (c : Closing) (n : N) → c.quit ≡ false → AsksOnce gives c n true n
+  unfolding Exchanges
+  asks_none c n q = ([], not_asked q, refl)
+
+  pub asks_once : (c : Closing) (address : List ℕ) (ask : Ask) (came : Came) (sent : Bool) (n n' : N) → c.quit ≡ true → address ≡ c.address → ask ≡ quit_ask c.session →
+      sent ≡ is_no_lack came → gives n address ask came n' → AsksOnce gives c n sent n'
+  unfolding Exchanges
+  asks_once c address ask came sent n n' q a k s gave = (
+    Exchanged c.address (quit_ask c.session) came ∷ [],
+    subst (λ (b : Bool). AsksOrLacks c b (Exchanged c.address (quit_ask c.session) came ∷ [])) (sym s) (asks_so c came q),
+    (n', subst (λ (z : Ask). gives n c.address z came n') k (subst (λ (z : List ℕ). gives n z ask came n') a gave), refl),
+  )
+
+  went_asks : (c : Closing) (sent : Bool) (h : HubView) (n n' : N) (m : ℕ) (pauses : Option Pauses) (steps : List Step) → AsksOrLacks c sent steps → Exchanges gives n steps n' →
+      Went gives (world_of h n m pauses) steps (world_of h n' m pauses)
+  unfolding Exchanges
+  went_asks c true h n n' m pauses _ (asked came some q) e =
+      subst (λ (k : N). Went gives (world_of h n m pauses) (Exchanged c.address (quit_ask c.session) came ∷ []) (world_of h k m pauses)) (sym e.2)
+      (went_exchange gives h n e.0 c.address (quit_ask c.session) came m pauses e.1)
+  went_asks c true h n n' m pauses _ (not_asked q) e =
+      subst (λ (k : N). Went gives (world_of h n m pauses) [] (world_of h k m pauses)) (sym e) (went_none gives (world_of h n m pauses))
+  went_asks c false h n n' m pauses steps x e = lacking (subst (λ (s : List Step). Exchanges gives n s n') x.1 e)
+    where
+      lacking : Exchanges gives n (Exchanged c.address (quit_ask c.session) (Err fault.Memory) ∷ []) n' → Went gives (world_of h n m pauses) steps (world_of h n' m pauses)
+      lacking y =
+          subst (λ (s : List Step). Went gives (world_of h n m pauses) s (world_of h n' m pauses)) (sym x.1)
+          (subst (λ (k : N). Went gives (world_of h n m pauses) (Exchanged c.address (quit_ask c.session) (Err fault.Memory) ∷ []) (world_of h k m pauses)) (sym y.2)
+          (went_exchange gives h n y.0 c.address (quit_ask c.session) (Err fault.Memory) m pauses y.1))
+
+  pub finished_so : (c : Closing) (sent : Bool) (h k : HubView) (n n' : N) (at m m' : ℕ) (pauses pauses' : Option Pauses) →
+      AsksOnce gives c n sent n' → ServesLocally h (Call.freed c) at (Some Reply.is_freed) k → Ticks m at m' pauses pauses' →
+      WentBy gives (AsksAndFrees c sent) (world_of h n m pauses) (world_of k n' m' pauses')
+  finished_so c sent h k n n' at m m' pauses pauses' asks serves ticks = record {
+    steps = asks.0 ++ Called (Call.freed c) at (Some Reply.is_freed) ∷ [];
+    are = record { own = asks.0; at = at; asks = asks.1; steps_are = refl };
+    went = went_more gives (world_of h n m pauses) (world_of h n' m pauses) (world_of k n' m' pauses') asks.0 (Called (Call.freed c) at (Some Reply.is_freed) ∷ [])
+        (went_asks c sent h n n' m pauses asks.0 asks.1 asks.2)
+        (went_call gives h k n' (Call.freed c) at (Some Reply.is_freed) m m' pauses pauses' (serves_as h (Call.freed c) at (Some Reply.is_freed) k serves) ticks);
+  }
+
+  -- one look that found a session
+  pub looked_expired : (found : Idle) (sent : Bool) (h k : HubView) (n : N) (at m m' : ℕ) (pauses pauses' : Option Pauses) (c : Closing) (x : World N) →
+      found ≡ found_by sent → Serves h Call.expire at (Some (Reply.expired c)) k → Ticks m at m' pauses pauses' → WentBy gives (AsksAndFrees c sent) (world_of k n m' pauses') x →
+      WentBy gives (Looked found) (world_of h n m pauses) x
+  looked_expired found sent h k n at m m' pauses pauses' c x is serves ticks finishes = record {
+    steps = Called Call.expire at (Some (Reply.expired c)) ∷ finishes.steps;
+    are = subst (λ (f : Idle). Looked f (Called Call.expire at (Some (Reply.expired c)) ∷ finishes.steps)) (sym is) (by_sent sent finishes.are);
+    went = went_more gives (world_of h n m pauses) (world_of k n m' pauses') x (Called Call.expire at (Some (Reply.expired c)) ∷ []) finishes.steps
+        (went_call gives h k n Call.expire at (Some (Reply.expired c)) m m' pauses pauses' serves ticks) finishes.went;
+  }
+    where
+      by_sent : (b : Bool) → AsksAndFrees c b finishes.steps → Looked (found_by b) (Called Call.expire at (Some (Reply.expired c)) ∷ finishes.steps)
+      by_sent true f = record { at = at; c = c; own = finishes.steps; frees = f; steps_are = refl }
+      by_sent false f = inr (record { at = at; c = c; own = finishes.steps; frees = f; steps_are = refl })
+
+  pub looked_over : (h k : HubView) (n : N) (at m m' : ℕ) (pauses pauses' : Option Pauses) → Serves h Call.expire at (Some Reply.nothing) k → Ticks m at m' pauses pauses' →
+      WentBy gives (Looked idle.Over) (world_of h n m pauses) (world_of k n m' pauses')
+  looked_over h k n at m m' pauses pauses' serves ticks = record {
+    steps = Called Call.expire at (Some Reply.nothing) ∷ [];
+    are = (at, refl);
+    went = went_call gives h k n Call.expire at (Some Reply.nothing) m m' pauses pauses' serves ticks;
+  }
+
+  pub looked_lacks : (h : HubView) (n : N) (at m m' : ℕ) (pauses pauses' : Option Pauses) → Ticks m at m' pauses pauses' →
+      WentBy gives (Looked idle.Lacks) (world_of h n m pauses) (world_of h n m' pauses')
+  looked_lacks h n at m m' pauses pauses' ticks = record {
+    steps = Called Call.expire at None ∷ [];
+    are = inl (at, refl);
+    went = went_call gives h h n Call.expire at None m m' pauses pauses' (serves_not h Call.expire at refl) ticks;
+  }
+
+  -- ---- all sessions
+
+  pub all_none : (w : World N) → WentBy gives AllEnd w w
+  all_none w = record { steps = []; are = none_yet; went = went_none gives w }
+
+  pub all_more : (u v w : World N) → WentBy gives AllEnd u v → WentBy gives (Looked idle.Ended) v w → WentBy gives AllEnd u w
+  all_more u v w p q = record { steps = p.steps ++ q.steps; are = one_more p.steps q.steps p.are q.are; went = went_more gives u v w p.steps q.steps p.went q.went }
+
+  pub all_then : (IsSo Then : List Step → Type 0) (u v w : World N) → ((done own : List Step) → AllEnd done → IsSo own → Then (done ++ own)) →
+      WentBy gives AllEnd u v → WentBy gives IsSo v w → WentBy gives Then u w
+  all_then IsSo Then u v w on p q = record { steps = p.steps ++ q.steps; are = on p.steps q.steps p.are q.are; went = went_more gives u v w p.steps q.steps p.went q.went }
+
+-- one session and what follows it
+ends_then : (own more : List Step) → EndsIdle true own → Expires more → Expires (own ++ more)
+ends_then own more x y =
+    subst (λ (s : List Step). Expires (s ++ more)) (sym (x.steps_are ∙ ap (λ (s : List Step). Called Call.expire x.at (Some (Reply.expired x.c)) ∷ s) x.frees.steps_are))
+    (subst (λ (s : List Step). Expires (Called Call.expire x.at (Some (Reply.expired x.c)) ∷ s)) (sym (append_assoc x.frees.own (Called (Call.freed x.c) x.frees.at (Some Reply.is_freed) ∷ []) more))
+    (one_idle x.at x.frees.at x.c x.frees.asks y))
+
+ends_then_lacks : (own more : List Step) → EndsIdle true own → ExpireLacks more → ExpireLacks (own ++ more)
+ends_then_lacks own more x y =
+    subst (λ (s : List Step). ExpireLacks (s ++ more)) (sym (x.steps_are ∙ ap (λ (s : List Step). Called Call.expire x.at (Some (Reply.expired x.c)) ∷ s) x.frees.steps_are))
+    (subst (λ (s : List Step). ExpireLacks (Called Call.expire x.at (Some (Reply.expired x.c)) ∷ s)) (sym (append_assoc x.frees.own (Called (Call.freed x.c) x.frees.at (Some Reply.is_freed) ∷ []) more))
+    (later x.at x.frees.at x.c x.frees.asks y))
+
+all_expire : (done more : List Step) → AllEnd done → Expires more → Expires (done ++ more)
+all_expire _ more none_yet y = y
+all_expire _ more (one_more done own x e) y =
+    subst Expires (sym (append_assoc done own more)) (all_expire done (own ++ more) x (ends_then own more e y))
+
+all_lack : (done more : List Step) → AllEnd done → ExpireLacks more → ExpireLacks (done ++ more)
+all_lack _ more none_yet y = y
+all_lack _ more (one_more done own x e) y =
+    subst ExpireLacks (sym (append_assoc done own more)) (all_lack done (own ++ more) x (ends_then_lacks own more e y))
+
+pub all_over : (done own : List Step) → AllEnd done → Looked idle.Over own → ExpiresOrLacks true (done ++ own)
+all_over done own x y = subst (λ (s : List Step). Expires (done ++ s)) (sym y.1) (all_expire done (Called Call.expire y.0 (Some Reply.nothing) ∷ []) x (none_idle y.0))
+
+lacking : (own : List Step) → Looked idle.Lacks own → ExpireLacks own
+lacking own (inl (at, is)) = subst ExpireLacks (sym is) (expire_lacks at)
+lacking own (inr x) =
+    subst ExpireLacks (sym (x.steps_are ∙ ap (λ (s : List Step). Called Call.expire x.at (Some (Reply.expired x.c)) ∷ s)
+    (x.frees.steps_are ∙ ap (λ (s : List Step). s ++ Called (Call.freed x.c) x.frees.at (Some Reply.is_freed) ∷ []) x.frees.asks.1)))
+    (not_sent x.at x.frees.at x.c x.frees.asks.0)
+
+pub all_lacking : (done own : List Step) → AllEnd done → Looked idle.Lacks own → ExpiresOrLacks false (done ++ own)
+all_lacking done own x y = all_lack done own x (lacking own y)
+
+-- ---- signs of life
+
+begins_after : (nodes rest : List ℕ) (steps more : List Step) → Beaten nodes steps → Begins rest more → Begins (nodes ++ rest) (steps ++ more)
+begins_after _ rest _ more none_beaten y = y
+begins_after _ rest _ more (beats_one nodes steps node at reply x) y =
+    subst (λ (ns : List ℕ). Begins ns ((steps ++ Called (Call.beat node) at (Some reply) ∷ []) ++ more)) (sym (append_assoc nodes (node ∷ []) rest))
+    (subst (λ (s : List Step). Begins (nodes ++ (node ∷ rest)) s) (sym (append_assoc steps (Called (Call.beat node) at (Some reply) ∷ []) more))
+    (begins_after nodes (node ∷ rest) steps (Called (Call.beat node) at (Some reply) ∷ more) x (beaten node at reply y)))
+
+lacks_after : (nodes rest : List ℕ) (steps more : List Step) → Beaten nodes steps → BeginLacks rest more → BeginLacks (nodes ++ rest) (steps ++ more)
+lacks_after _ rest _ more none_beaten y = y
+lacks_after _ rest _ more (beats_one nodes steps node at reply x) y =
+    subst (λ (ns : List ℕ). BeginLacks ns ((steps ++ Called (Call.beat node) at (Some reply) ∷ []) ++ more)) (sym (append_assoc nodes (node ∷ []) rest))
+    (subst (λ (s : List Step). BeginLacks (nodes ++ (node ∷ rest)) s) (sym (append_assoc steps (Called (Call.beat node) at (Some reply) ∷ []) more))
+    (lacks_after nodes (node ∷ rest) steps (Called (Call.beat node) at (Some reply) ∷ more) x (behind_beat node at reply y)))
+
+module _ {N : Type 0} (gives : N → List ℕ → Ask → Came → N → Type 0) where
+  pub beaten_none : (w : World N) → WentBy gives (Beaten []) w w
+  beaten_none w = record { steps = []; are = none_beaten; went = went_none gives w }
+
+  beaten_more : (u : World N) (nodes : List ℕ) (node : ℕ) (h k : HubView) (n : N) (at m m' : ℕ) (reply : Reply) (pauses pauses' : Option Pauses) →
+      WentBy gives (Beaten nodes) u (world_of h n m pauses) → Serves h (Call.beat node) at (Some reply) k → Ticks m at m' pauses pauses' →
+      WentBy gives (Beaten (nodes ++ node ∷ [])) u (world_of k n m' pauses')
+  beaten_more u nodes node h k n at m m' reply pauses pauses' p serves ticks = record {
+    steps = p.steps ++ Called (Call.beat node) at (Some reply) ∷ [];
+    are = beats_one nodes p.steps node at reply p.are;
+    went = went_more gives u (world_of h n m pauses) (world_of k n m' pauses') p.steps (Called (Call.beat node) at (Some reply) ∷ []) p.went
+        (went_call gives h k n (Call.beat node) at (Some reply) m m' pauses pauses' serves ticks);
+  }
+
+  beaten_lacks : (u : World N) (nodes rest : List ℕ) (node : ℕ) (h : HubView) (n : N) (at m m' : ℕ) (pauses pauses' : Option Pauses) →
+      WentBy gives (Beaten nodes) u (world_of h n m pauses) → Ticks m at m' pauses pauses' →
+      WentBy gives (BeginLacks (nodes ++ (node ∷ rest))) u (world_of h n m' pauses')
+  beaten_lacks u nodes rest node h n at m m' pauses pauses' p ticks = record {
+    steps = p.steps ++ Called (Call.beat node) at None ∷ [];
+    are = lacks_after nodes (node ∷ rest) p.steps (Called (Call.beat node) at None ∷ []) p.are (beat_lacks node at);
+    went = went_more gives u (world_of h n m pauses) (world_of h n m' pauses') p.steps (Called (Call.beat node) at None ∷ []) p.went
+        (went_call gives h h n (Call.beat node) at None m m' pauses pauses' (serves_not h (Call.beat node) at refl) ticks);
+  }
+
+  -- ---- all of it
+
+  sweeps_then : (IsSo Then : List Step → Type 0) (h k : HubView) (n : N) (at m m' : ℕ) (reply : Reply) (pauses pauses' : Option Pauses) (x : World N) →
+      ((more : List Step) → IsSo more → Then (Called Call.sweep at (Some reply) ∷ more)) →
+      Serves h Call.sweep at (Some reply) k → Ticks m at m' pauses pauses' → WentBy gives IsSo (world_of k n m' pauses') x → WentBy gives Then (world_of h n m pauses) x
+  sweeps_then IsSo Then h k n at m m' reply pauses pauses' x on serves ticks q = record {
+    steps = Called Call.sweep at (Some reply) ∷ q.steps;
+    are = on q.steps q.are;
+    went = went_more gives (world_of h n m pauses) (world_of k n m' pauses') x (Called Call.sweep at (Some reply) ∷ []) q.steps
+        (went_call gives h k n Call.sweep at (Some reply) m m' pauses pauses' serves ticks) q.went;
+  }
+
+  pub sweeps_all : (ended : Bool) (h k : HubView) (n : N) (at m m' : ℕ) (reply : Reply) (pauses pauses' : Option Pauses) (x : World N) → ended ≡ true →
+      Serves h Call.sweep at (Some reply) k → Ticks m at m' pauses pauses' → WentBy gives (ExpiresOrLacks ended) (world_of k n m' pauses') x →
+      WentBy gives (Begins []) (world_of h n m pauses) x
+  sweeps_all ended h k n at m m' reply pauses pauses' x is serves ticks q =
+      sweeps_then Expires (Begins []) h k n at m m' reply pauses pauses' x (λ more y. swept at reply y) serves ticks
+      (subst (λ (b : Bool). WentBy gives (ExpiresOrLacks b) (world_of k n m' pauses') x) is q)
+
+  pub sweeps_lack : (ended : Bool) (h k : HubView) (n : N) (at m m' : ℕ) (reply : Reply) (pauses pauses' : Option Pauses) (x : World N) → ended ≡ false →
+      Serves h Call.sweep at (Some reply) k → Ticks m at m' pauses pauses' → WentBy gives (ExpiresOrLacks ended) (world_of k n m' pauses') x →
+      WentBy gives (BeginLacks []) (world_of h n m pauses) x
+  sweeps_lack ended h k n at m m' reply pauses pauses' x is serves ticks q =
+      sweeps_then ExpireLacks (BeginLacks []) h k n at m m' reply pauses pauses' x (λ more y. behind_sweep at reply y) serves ticks
+      (subst (λ (b : Bool). WentBy gives (ExpiresOrLacks b) (world_of k n m' pauses') x) is q)
+
+  pub sweep_not : (h : HubView) (n : N) (at m m' : ℕ) (pauses pauses' : Option Pauses) → Ticks m at m' pauses pauses' →
+      WentBy gives (BeginLacks []) (world_of h n m pauses) (world_of h n m' pauses')
+  sweep_not h n at m m' pauses pauses' ticks = record {
+    steps = Called Call.sweep at None ∷ [];
+    are = sweep_lacks at;
+    went = went_call gives h h n Call.sweep at None m m' pauses pauses' (serves_not h Call.sweep at refl) ticks;
+  }
+
+  begins_all : (own : List ℕ) (u v w : World N) → WentBy gives (Beaten own) u v → WentBy gives (Begins []) v w → WentBy gives (Begins own) u w
+  begins_all own u v w p q = record {
+    steps = p.steps ++ q.steps;
+    are = subst (λ (ns : List ℕ). Begins ns (p.steps ++ q.steps)) (append-nil own) (begins_after own [] p.steps q.steps p.are q.are);
+    went = went_more gives u v w p.steps q.steps p.went q.went;
+  }
+
+  lacks_all : (own : List ℕ) (u v w : World N) → WentBy gives (Beaten own) u v → WentBy gives (BeginLacks []) v w → WentBy gives (BeginLacks own) u w
+  lacks_all own u v w p q = record {
+    steps = p.steps ++ q.steps;
+    are = subst (λ (ns : List ℕ). BeginLacks ns (p.steps ++ q.steps)) (append-nil own) (lacks_after own [] p.steps q.steps p.are q.are);
+    went = went_more gives u v w p.steps q.steps p.went q.went;
+  }
+
+-- the closing that a look gives is good
+pub may_free : (old new : HubView) (at : ℕ) (c : Closing) → ServesLocally old Call.expire at (Some (Reply.expired c)) new → MayCall (past new) 0 (Call.freed c)
+may_free old new at c serves = record { is_good = serves.serves.gives.0; is_true = tt }
+
+-- one session fewer runs
+pub ends_one : (found : Idle) (sent : Bool) (old roomed mid new : HubView) (at : ℕ) (c : Closing) → found ≡ found_by sent → roomed ≡ record old { room = true } →
+    ServesLocally roomed Call.expire at (Some (Reply.expired c)) mid → live_count (past new) ≤ live_count (past mid) → EndsOne found (past old) (past new)
+ends_one found sent old roomed mid new at c told is serves keeps =
+    subst (λ (f : Idle). EndsOne f (past old) (past new)) (sym told) (by_sent sent)
+  where
+    below : (a b d : ℕ) → a ≤ b → b < d → a < d
+    below a b d x y = omega (arith, x, y)
+
+    by_sent : (b : Bool) → EndsOne (found_by b) (past old) (past new)
+    by_sent true =
+        below (live_count (past new)) (live_count (past mid)) (live_count (past old)) keeps
+        (subst (λ (h : List Entry). live_count (past mid) < live_count h) (ap past is) (expire_lowers roomed.config (past roomed) at c (past mid) serves.serves.answers))
+    by_sent false = tt
+
+-- ---- rooms that were made, or not
+
+pub on_err : {A E P : Type 0} (r : Result A E) → is_err r ≡ true → OnErr r P → P
+on_err (Ok a) e h = absurd cc
+on_err (Err x) e h = h
+
+pub on_ok : {A E P : Type 0} (r : Result A E) → is_err r ≡ false → OnOk r P → P
+on_ok (Ok a) e h = h
+on_ok (Err x) e h = absurd cc
+
+-- ---- lists of nodes
+
+next_suc : (xs : List ℕ) (i d : ℕ) → i < length xs → take (suc i) xs ≡ take i xs ++ get_or xs i d ∷ []
+next_suc [] i d lt = absurd (omega arith)
+next_suc (y ∷ xs) zero d lt = refl
+next_suc (y ∷ xs) (suc i) d lt = ap (λ (zs : List ℕ). y ∷ zs) (next_suc xs i d (omega arith))
+
+take_next : (xs : List ℕ) (i d : ℕ) → i < length xs → take (i + 1) xs ≡ take i xs ++ get_or xs i d ∷ []
+take_next xs i d lt = ap (λ (n : ℕ). take n xs) (add-one i) ∙ next_suc xs i d lt
+
+split_at : (xs : List ℕ) (i d : ℕ) → i < length xs → xs ≡ take i xs ++ get_or xs i d ∷ drop (suc i) xs
+split_at [] i d lt = absurd (omega arith)
+split_at (y ∷ xs) zero d lt = refl
+split_at (y ∷ xs) (suc i) d lt = ap (λ (zs : List ℕ). y ∷ zs) (split_at xs i d (omega arith))
+
+take_whole : (xs : List ℕ) (i : ℕ) → length xs ≤ i → take i xs ≡ xs
+take_whole [] zero le = refl
+take_whole [] (suc i) le = refl
+take_whole (y ∷ xs) zero le = absurd (omega arith)
+take_whole (y ∷ xs) (suc i) le = ap (λ (zs : List ℕ). y ∷ zs) (take_whole xs i (omega arith))
+
+ok_then : {A E P Q : Type 0} (r : Result A E) → (P → Q) → OnOk r P → OnOk r Q
+ok_then (Ok a) f h = f h
+ok_then (Err e) f h = tt
+
+err_then : {A E P Q : Type 0} (r : Result A E) → (P → Q) → OnErr r P → OnErr r Q
+err_then (Ok a) f h = tt
+err_then (Err e) f h = f h
+
+beat_replied : (b : Beating) (old : HubView) (node at : ℕ) (new : HubView) → Serves old (Call.beat node) at (beating_reply b) new →
+    (reply : Reply) × Serves old (Call.beat node) at (Some reply) new
+beat_replied beating.Beaten old node at new x = (Reply.beaten, x)
+beat_replied beating.NoNode old node at new x = (Reply.no_node, x)
+
+module _ {N : Type 0} (gives : N → List ℕ → Ask → Came → N → Type 0) where
+  -- one more node gave its sign of life
+  pub beats_on : (own : List ℕ) (i d : ℕ) (b : Beating) (u : World N) (h roomed k : HubView) (n : N) (at m m' : ℕ) (pauses pauses' : Option Pauses) → i < length own →
+      WentBy gives (Beaten (take i own)) u (world_of h n m pauses) → roomed ≡ record h { room = true } → ServesLocally roomed (Call.beat (get_or own i d)) at (beating_reply b) k →
+      Ticks m at m' pauses pauses' → WentBy gives (Beaten (take (i + 1) own)) u (world_of k n m' pauses')
+  beats_on own i d b u h roomed k n at m m' pauses pauses' lt p made serves ticks =
+      let told = beat_replied b h (get_or own i d) at k (serves_roomed h roomed k (Call.beat (get_or own i d)) at (beating_reply b) made serves) in
+      subst (λ (ns : List ℕ). WentBy gives (Beaten ns) u (world_of k n m' pauses')) (sym (take_next own i d lt))
+      (beaten_more gives u (take i own) (get_or own i d) h k n at m m' told.0 pauses pauses' p told.1 ticks)
+
+  -- there was no room for one
+  pub beats_not : (own : List ℕ) (i : ℕ) (u : World N) (h roomed : HubView) (n : N) (at m m' : ℕ) (pauses pauses' : Option Pauses) → i < length own →
+      WentBy gives (Beaten (take i own)) u (world_of h n m pauses) → roomed ≡ h → Ticks m at m' pauses pauses' → WentBy gives (BeginLacks own) u (world_of roomed n m' pauses')
+  beats_not own i u h roomed n at m m' pauses pauses' lt p same ticks =
+      subst (λ (g : HubView). WentBy gives (BeginLacks own) u (world_of g n m' pauses')) (sym same)
+      (subst (λ (ns : List ℕ). WentBy gives (BeginLacks ns) u (world_of h n m' pauses')) (sym (split_at own i 0 lt))
+      (beaten_lacks gives u (take i own) (drop (suc i) own) (get_or own i 0) h n at m m' pauses pauses' p ticks))
+
+  pub begins_then : (own : List ℕ) (i : ℕ) (u v w : World N) (r : Result (Unit {0}) NoMemory) → length own ≤ i → WentBy gives (Beaten (take i own)) u v →
+      OnOk r (WentBy gives (Begins []) v w) → OnOk r (WentBy gives (Begins own) u w)
+  begins_then own i u v w r le p h =
+      ok_then r (λ q. begins_all gives own u v w (subst (λ (ns : List ℕ). WentBy gives (Beaten ns) u v) (take_whole own i le) p) q) h
+
+  pub lacks_then : (own : List ℕ) (i : ℕ) (u v w : World N) (r : Result (Unit {0}) NoMemory) → length own ≤ i → WentBy gives (Beaten (take i own)) u v →
+      OnErr r (WentBy gives (BeginLacks []) v w) → OnErr r (WentBy gives (BeginLacks own) u w)
+  lacks_then own i u v w r le p h =
+      err_then r (λ q. lacks_all gives own u v w (subst (λ (ns : List ℕ). WentBy gives (Beaten ns) u v) (take_whole own i le) p) q) h

@@ -1,0 +1,4 @@
+mod LiveLemmas
+mod WayLemmas
+mod BeginLemmas
+mod CallLemmas

@@ -1,0 +1,14 @@
+use Rattle.hub_core.specs.HubView.{past}
+use Rattle.local_driver.specs.Idles.{AllEnd, live_count}
+use Rattle.local_driver.specs.World.{WentBy, world_of}
+use Rattle.local_driver.proofs.before.end_all_idle.Given as goal
+
+-- idle sessions were ended, and nothing else was done
+abbrev pub invariant-looks : goal.invariant-looks
+invariant-looks g l = WentBy g.N.NodeLink.gives AllEnd
+    (world_of l.fn.hub l.fn.nodes (g.C.Clock.moment l.fn.clock) (g.C.Clock.pauses l.fn.clock))
+    (world_of l.hub l.nodes (g.C.Clock.moment l.clock) (g.C.Clock.pauses l.clock))
+
+-- one session fewer runs each time
+abbrev pub decreases-looks : goal.decreases-looks
+decreases-looks g l = live_count (past l.hub)

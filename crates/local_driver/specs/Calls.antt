@@ -1,0 +1,34 @@
+-- What came of a call that a connection hands out, on the hub of one thread.
+use Rattle.std.specs.Prelude.{◌≡◌, ℕ, Bool, true, false, Option}
+use Rattle.grid_types.specs.declared.names.SlotId.{SlotId}
+use Rattle.grid_types.specs.Tokens.{ticket_of, reservation_of, is_good_ticket, is_good_reservation, is_good_closing}
+use Rattle.grid_types.specs.Calls.{Call, Reply}
+use Rattle.hub_core.specs.HubView.{HubView, past}
+use Rattle.hub_core.specs.Serves.{GivesGood, hands_ticket, hands_reservation, hands_closing}
+use Rattle.conn_script.specs.declared.wants.HubAnswer.{HubAnswer}
+use Rattle.conn_script.specs.Wanted.{FitsKind, Keeps, kind_of, reply_of, is_spent}
+use Rattle.local_driver.specs.World.{AnswersAt}
+
+-- room was made, or there is none
+abbrev pub HasRoom : Bool → HubView → HubView → Type 0
+HasRoom true old new = new ≡ record old { room = true }
+HasRoom false old new = new ≡ old
+
+-- The tokens of the reply are good and tell what is so. Each token that was good and was not handed in is good still, and tells the
+-- same.
+pub record ServesOn (old : HubView) (call : Call) (at : ℕ) (reply : Option Reply) (new : HubView) : Type 0 where
+  pub config : new.config ≡ old.config
+  pub answers : AnswersAt old.config (past old) call at reply (past new)
+  pub gives : GivesGood (past new) 0 reply
+  pub keeps_tickets : (r : ℕ) → is_good_ticket (past old) 0 r ≡ true → hands_ticket call r ≡ false →
+      (is_good_ticket (past new) 0 r ≡ true) × (ticket_of (past new) r ≡ ticket_of (past old) r)
+  pub keeps_reservations : (r : ℕ) (s : SlotId) → is_good_reservation (past old) 0 r s ≡ true → hands_reservation call r s ≡ false →
+      (is_good_reservation (past new) 0 r s ≡ true) × (reservation_of (past new) r s ≡ reservation_of (past old) r s)
+  pub keeps_closings : (s : SlotId) → is_good_closing (past old) 0 s ≡ true → hands_closing call s ≡ false → is_good_closing (past new) 0 s ≡ true
+
+-- The answer is one to such a call, and what was handed in comes back for want of memory. This hub is never spent.
+pub record Made (old : HubView) (call : Call) (at : ℕ) (answer : HubAnswer) (new : HubView) : Type 0 where
+  pub fits : FitsKind answer (kind_of call)
+  pub keeps : Keeps answer call
+  pub unspent : is_spent answer ≡ false
+  pub serves : ServesOn old call at (reply_of answer) new

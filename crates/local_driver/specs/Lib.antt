@@ -1,0 +1,4 @@
+pub mod World
+pub mod Idles
+pub mod Beginning
+pub mod Calls

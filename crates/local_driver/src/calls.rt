@@ -1,0 +1,47 @@
+//! The calls of the hub that a connection hands out, each by one call of a hub of one thread.
+ghost use Rattle.std.specs.Prelude.{◌≡◌, true};
+ghost use Rattle.conn_script.specs.Wanted.{call_of};
+ghost use Rattle.hub_core.specs.HubView.{past};
+ghost use Rattle.hub_core.specs.Serves.{MayCall};
+ghost use Rattle.local_driver.specs.Calls.{HasRoom, Made};
+
+mod nodes;
+mod requests;
+mod sessions;
+
+use conn_script::{HubAnswer, HubCall};
+use grid_types::Moment;
+use hub_core::LocalHub;
+use nodes::{beat, drain, register, remove};
+use requests::{bind, clear, enqueue, fail, poll};
+use sessions::{end, freed, lookup, touch, view};
+
+/// Makes the call at the moment. Where there is no room for its entries, it isn't made, and the answer says so.
+pub fn make(hub: &mut LocalHub, call: HubCall, at: Moment) -> HubAnswer
+    requires { MayCall (past hub.old) 0 (call_of call) }
+    ensures { Made hub.old (call_of call) at.0 result hub.new }
+{
+    match call {
+        HubCall::Register(node) => register(hub, node, at),
+        HubCall::Beat(node) => beat(hub, node, at),
+        HubCall::Drain(node) => drain(hub, node, at),
+        HubCall::Remove(node) => remove(hub, node, at),
+        HubCall::Enqueue(choices) => enqueue(hub, choices, at),
+        HubCall::Poll(ticket) => poll(hub, ticket, at),
+        HubCall::Bind(reservation, session, caps) => bind(hub, reservation, session, caps, at),
+        HubCall::Fail(reservation, why) => fail(hub, reservation, why, at),
+        HubCall::Lookup(session) => lookup(hub, session),
+        HubCall::Touch(session, binding) => touch(hub, session, binding, at),
+        HubCall::End(session, binding) => end(hub, session, binding, at),
+        HubCall::Freed(closing) => freed(hub, closing),
+        HubCall::Clear => clear(hub, at),
+        HubCall::View => view(hub),
+    }
+}
+
+/// Takes the memory for one next call.
+fn has_room(hub: &mut LocalHub) -> bool
+    ensures { HasRoom result hub.old hub.new }
+{
+    hub.room().is_ok()
+}
