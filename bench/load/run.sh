@@ -1,0 +1,47 @@
+#!/bin/sh
+# Builds the load program with rustc, starts a hub of this checkout on the loopback, and runs both loads over it: how fast
+# sessions go through the hub, and clients that vanish beside nodes that fail. Ends what it started.
+#
+# Usage: bench/load/run.sh [SECONDS [CLIENTS]]    10 seconds for each measurement, 10000 clients in trouble
+# GRID_HUB names another hub's program, PORT another port than 4470.
+set -u
+
+here=$(cd "$(dirname "$0")" && pwd) || exit 2
+top=$(dirname "$(dirname "$here")")
+seconds=${1:-10}
+clients=${2:-10000}
+port=${PORT:-4470}
+at=127.0.0.1:$port
+folder=$(mktemp -d) || exit 2
+hub=
+
+finish() {
+    [ -z "$hub" ] || { kill "$hub" && wait "$hub"; } 2>/dev/null
+    rm -rf "$folder"
+}
+trap finish EXIT
+trap 'exit 130' INT TERM
+
+# Starts a hub with these options and waits until it answers.
+start() {
+    [ -z "$hub" ] || { kill "$hub" && wait "$hub"; } 2>/dev/null
+    "$program" --port "$port" --handlers 128 "$@" &
+    hub=$!
+    tries=0
+    until curl -s -o "$folder/status" "http://$at/status"; do
+        tries=$((tries + 1))
+        [ "$tries" -lt 200 ] || exit 1
+        sleep 0.1
+    done
+}
+
+program=${GRID_HUB:-$top/crates/grid_hub/out/grid_hub}
+if [ ! -x "$program" ]; then
+    echo "run.sh: builds grid_hub, which takes some minutes the first time" >&2
+    (cd "$top/crates/grid_hub" && rt run -- --port x) >&2
+fi
+rustc --edition 2024 -O -o "$folder/load" "$here/main.rs" || exit 1
+start
+"$folder/load" speed "$at" "$hub" "$seconds" || exit 1
+start --session-timeout 10
+"$folder/load" trouble "$at" "$clients"
