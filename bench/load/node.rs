@@ -24,7 +24,8 @@ pub struct Node {
     seed: AtomicU64,
     /// The most sessions that it had at once.
     most: AtomicUsize,
-    /// How often it was dead for a while.
+    /// How often it was dead for a while. A connection of an earlier life is answered no more: who was told that the node
+    /// is unreachable has freed the slot.
     deaths: AtomicU64,
     /// How often it did not do what it was asked, deaths aside.
     faults: AtomicU64,
@@ -82,9 +83,11 @@ impl Node {
             let Ok((stream, _)) = listener.accept() else { continue };
             if self.faulty && self.dice().throw(400) == 0 {
                 // It is dead for a while, and its sessions with it.
-                self.deaths.fetch_add(1, Ordering::SeqCst);
                 drop((stream, listener));
-                self.sessions.lock().unwrap().clear();
+                let mut sessions = self.sessions.lock().unwrap();
+                self.deaths.fetch_add(1, Ordering::SeqCst);
+                sessions.clear();
+                drop(sessions);
                 thread::sleep(Duration::from_millis(300));
                 listener = loop {
                     match TcpListener::bind(&self.address) {
@@ -94,14 +97,14 @@ impl Node {
                 };
                 continue;
             }
-            let node = self.clone();
-            thread::spawn(move || Connection::of(stream).and_then(|link| node.serve(link)));
+            let (node, life) = (self.clone(), self.deaths());
+            thread::spawn(move || Connection::of(stream).and_then(|link| node.serve(link, life)));
         }
     }
 
-    fn serve(&self, mut link: Connection) -> io::Result<()> {
+    fn serve(&self, mut link: Connection, life: u64) -> io::Result<()> {
         while let Some(message) = link.receive()? {
-            match self.deed(&message) {
+            match self.deed(&message, life) {
                 Deed::Answers(text) => link.send(text.as_bytes())?,
                 Deed::Breaks(bytes) => {
                     self.faults.fetch_add(1, Ordering::SeqCst);
@@ -115,12 +118,12 @@ impl Node {
         Ok(())
     }
 
-    fn deed(&self, message: &Message) -> Deed {
+    fn deed(&self, message: &Message, life: u64) -> Deed {
         let mut words = message.start.split(' ');
         let (method, target) = (words.next().unwrap_or(""), words.next().unwrap_or(""));
         let throw = if self.faulty { self.dice().throw(100) } else { 100 };
         match (method, target) {
-            ("POST", "/session") => self.new_session(throw),
+            ("POST", "/session") => self.new_session(throw, life),
             ("DELETE", _) => {
                 self.sessions.lock().unwrap().remove(target.strip_prefix("/session/").unwrap_or(""));
                 if throw < 3 { Deed::Breaks(Vec::new()) } else { Deed::Answers(response(200, NULL)) }
@@ -130,7 +133,7 @@ impl Node {
         }
     }
 
-    fn new_session(&self, throw: u64) -> Deed {
+    fn new_session(&self, throw: u64, life: u64) -> Deed {
         match throw {
             0..5 => {
                 self.faults.fetch_add(1, Ordering::SeqCst);
@@ -145,20 +148,23 @@ impl Node {
             14..16 => Deed::Breaks(Vec::new()),
             16..19 => {
                 self.faults.fetch_add(1, Ordering::SeqCst);
-                self.created("firefox")
+                self.created("firefox", life)
             }
             19..22 => {
                 thread::sleep(Duration::from_millis(20 * (throw - 18)));
-                self.created("chrome")
+                self.created("chrome", life)
             }
-            _ => self.created("chrome"),
+            _ => self.created("chrome", life),
         }
     }
 
-    fn created(&self, browser: &str) -> Deed {
+    fn created(&self, browser: &str, life: u64) -> Deed {
         let count = self.made.fetch_add(1, Ordering::SeqCst);
         let id = format!("{}-{count}", self.name);
         let mut sessions = self.sessions.lock().unwrap();
+        if self.deaths() != life {
+            return Deed::Breaks(Vec::new());
+        }
         sessions.insert(id.clone());
         self.most.fetch_max(sessions.len(), Ordering::SeqCst);
         Deed::Answers(response(

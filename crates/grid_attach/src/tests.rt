@@ -63,6 +63,7 @@ fn words_become_a_registration(rt: HostRuntime) -> Result<(), Fail> {
     let result = attach_main(alloc, words.as_slice(), &mut nodes, &mut clock, 1);
     assert!(rt; result.is_ok());
     let made = nodes.made();
+    assert_eq!(rt; made.len(), 2);
     assert_eq!(rt; made[0].address.as_bytes(), b"127.0.0.1:9515".as_slice());
     assert_eq!(rt; made[1].address.as_bytes(), b"127.0.0.1:4444".as_slice());
     let body =
