@@ -1,0 +1,13 @@
+//! Trials of the running hub, which show what no clause says: that its parts run beside each other.
+#![tactic(auto)]
+
+#[cfg(test)]
+mod held;
+#[cfg(test)]
+mod loopback;
+#[cfg(test)]
+mod starting;
+#[cfg(test)]
+mod tests;
+#[cfg(test)]
+mod ticking;
