@@ -1,4 +1,4 @@
-#!/usr/bin/env python3
+#!/usr/bin/python3
 """Opens a page in the first browser that the hub gives, and prints its title.
 
 Usage: first_session.py [HUB]    HUB is an address as 127.0.0.1:4444, which it is by default.
