@@ -2,7 +2,7 @@
 use Rattle.std.proofs.Common.{◌≡◌, ◌≢◌, ℕ, ◌+◌, ◌-◌, ◌<◌, ◌≤◌, true, min, List, [], ◌∷◌, ◌++◌, length, take, drop, refl, sym, ap, ◌∙◌, subst, arith, append_assoc, append-nil, length-append, length-take, inl, inr}
 use Rattle.std.specs.List.{flat_map}
 use Rattle.std.proofs.lemmas.Bool.{cases_lt}
-use Rattle.std.proofs.lemmas.List.{take_all}
+use Rattle.std.proofs.lemmas.List.{take_all, length-take-le}
 use Rattle.std.proofs.lemmas.List.Elements.{All-nil}
 use Rattle.httparse.specs.Grammar.{LineEnd, lf, crlf, print_end, print_field, print_section, ChunkLine, print_chunk_line, chunk_size, IsField}
 use Rattle.httparse.proofs.ChunkLemmas.{ReadsChunkLine-append}
@@ -18,6 +18,10 @@ use Rattle.http_frames.specs.Chunks.{Chunk, size_of, parts_of, joined, ReadsLine
 use Rattle.http_frames.specs.Frames.{expects, open_chunked, body_too_long, bad_chunk, whole_chunked}
 use Rattle.http_frames.specs.Turns.{IsLineTurn, IsTrailersTurn, IsPart}
 use Rattle.http_frames.specs.Feeding.{StandsIn, Fed, IsInChunks, IsInLine, IsInData, IsInTrailers, IsAtEnd, IsWithinLimits, Feeds, KeepsFed, IsPhaseBehindLine, IsPhaseOfData, awaits_in, awaits_more}
+use Rattle.http_frames.specs.declared.calm.Calm.{Calm}
+use Rattle.http_frames.specs.declared.calm.Calm.TheVariants.{Nothing}
+use Rattle.http_frames.specs.Calm.{is_calm, calm_behind, IsPartOfLine, LineStays, IsPartOfTrailers, TrailersStay}
+use Rattle.http_frames.proofs.CalmLemmas.{stays_on, nothing_so}
 use Rattle.http_frames.proofs.MoreLemmas.{has_head_more, chunks_more, line_more}
 use Rattle.http_frames.proofs.UniqueLemmas.{line_unique}
 use Rattle.http_frames.proofs.ChunkLemmas.{size_more, chunks_more as chunks_and_one}
@@ -88,8 +92,9 @@ front_line p q l x some =
 pub line_goes_on : (old new : FrameReader) (piece part : List ℕ) (room len : ℕ) → old.phase ≡ phase.Line
     → IsPart piece room part → IsLineTurn (old.line.items ++ part) (length old.line.items) (line.Open len)
     → Became old new phase.Line old.waits old.head.items old.body.items (take len (old.line.items ++ part))
+    → (IsPartOfLine new.line.items → LineStays new.calm new.line.items)
     → Feeds old piece (len - length old.line.items) new
-line_goes_on old new piece part room len is (j, fits, in_room, some, part_is) ((more, inside), begun) now =
+line_goes_on old new piece part room len is (j, fits, in_room, some, part_is) ((more, inside), begun) now calm =
     let front = grown old.line.items part piece j len part_is fits (omega (arith, more)) inside in
     feeds_of old new piece (len - length old.line.items) front.1 (omega (arith, more))
     (λ limits bytes fed.
@@ -104,7 +109,41 @@ line_goes_on old new piece part room len is (j, fits, in_room, some, part_is) ((
           (λ content behind x.
           let text : take len (old.line.items ++ part) ≡ behind ++ take (len - length old.line.items) piece =
           front.0 ∙ ap (λ (b : List ℕ). b ++ take (len - length old.line.items) piece) x.1 in
-          (now.body_is ∙ x.0, now.line_is ∙ text, subst IsOpenLine text begun))),
+          let here : IsOpenLine new.line.items = subst IsOpenLine (sym now.line_is) begun in (
+            now.body_is ∙ x.0,
+            now.line_is ∙ text,
+            subst IsOpenLine text begun,
+            subst (LineStays new.calm) (now.line_is ∙ text) (calm (here.1, here.2)),
+          ))),
+      inl (ap awaits_in now.phase_is),
+    ))
+
+-- bytes of which it is known that they leave the line unfinished
+pub line_stays : (old new : FrameReader) (piece part : List ℕ) (room : ℕ) → old.phase ≡ phase.Line → 0 < length piece
+    → IsPart piece room part → length old.line.items + length part < 4096
+    → is_calm (calm_behind old.calm part) ≡ true → new.calm ≡ calm_behind old.calm part
+    → Became old new phase.Line old.waits old.head.items old.body.items (old.line.items ++ part)
+    → Feeds old piece (length part) new
+line_stays old new piece part room is there (j, fits, in_room, some, part_is) few known calm now =
+    let size : length part ≡ j = ap length part_is ∙ length-take-le j piece fits in
+    let front : take (length part) piece ≡ part = ap (λ (n : ℕ). take n piece) size ∙ sym part_is in
+    feeds_of old new piece (length part) (omega (arith, size, fits)) (omega (arith, size, some there))
+    (λ limits bytes fed.
+    let at = stands_at phase.Line limits old bytes is fed in (
+      fed_at phase.Line limits new _ (now.limits_are ∙ fed.limits_are, fed.narrow) now.phase_is
+          (record {
+            head = omega (arith, ap length now.head_is, fed.within.head);
+            data_in = omega (arith, ap length now.body_is, fed.within.data_in);
+            line = omega (arith, ap length now.line_is, length-append old.line.items part, few);
+          })
+          (subst (λ (t : List ℕ). IsInChunks limits new (bytes ++ t) (IsInLine new)) (sym front)
+          (chunks_grow limits old new bytes part (IsInLine old) (IsInLine new) at now.head_is now.waits_is
+          (λ content behind x. (
+            now.body_is ∙ x.0,
+            now.line_is ∙ ap (λ (b : List ℕ). b ++ part) x.1,
+            (omega (arith, few, length-append behind part, ap length x.1), (x.3 part known).0, (x.3 part known).1),
+            subst (λ (c : Calm). LineStays c (behind ++ part)) (sym calm) (stays_on IsPartOfLine old.calm behind part x.3),
+          )))),
       inl (ap awaits_in now.phase_is),
     ))
 
@@ -155,9 +194,9 @@ pub line_ends : (old new : FrameReader) (piece part : List ℕ) (room len size :
     → length old.line.items < len
     → length old.body.items ≤ old.limits.body
     → IsPhaseBehindLine (old.limits.body - length old.body.items) size p
-    → Became old new p old.waits old.head.items old.body.items []
+    → Became old new p old.waits old.head.items old.body.items [] → new.calm ≡ Nothing
     → Feeds old piece (len - length old.line.items) new
-line_ends old new piece part room len size p is (j, fits, in_room, some, part_is) (l, inside, reads, size_is) longer room_is behind now =
+line_ends old new piece part room len size p is (j, fits, in_room, some, part_is) (l, inside, reads, size_is) longer room_is behind now calm =
     let front = grown old.line.items part piece j len part_is fits (omega (arith, longer)) inside in
     let n = len - length old.line.items in
     feeds_of old new piece n front.1 (omega (arith, longer))
@@ -190,6 +229,7 @@ line_ends old new piece part room len size p is (j, fits, in_room, some, part_is
               size_is ∙ e.0,
               subst IsOpenTrailers (sym now.line_is) open_trailers_nil,
               now.body_is ∙ here.0 ∙ sym x.0,
+              nothing_so IsPartOfTrailers new.calm new.line.items calm,
             )))),
         inl (ap awaits_in (now.phase_is ∙ e.1)),
       )
@@ -361,9 +401,9 @@ joined_more [] c = append-nil c.bytes
 joined_more (d ∷ cs) c = ap (λ (t : List ℕ). d.bytes ++ t) (joined_more cs c) ∙ sym (append_assoc d.bytes (joined (parts_of cs)) c.bytes)
 
 pub chunk_ends : (old new : FrameReader) (rest : List ℕ) → old.phase ≡ phase.Return
-    → Became old new phase.Line old.waits old.head.items old.body.items old.line.items
+    → Became old new phase.Line old.waits old.head.items old.body.items old.line.items → new.calm ≡ Nothing
     → Feeds old (10 ∷ rest) 1 new
-chunk_ends old new rest is now =
+chunk_ends old new rest is now calm =
     feeds_of old new (10 ∷ rest) 1 (omega arith) (omega arith)
     (λ limits bytes fed.
     let at = stands_at phase.Return limits old bytes is fed in
@@ -398,7 +438,7 @@ chunk_ends old new rest is now =
             [],
             chunks_and_one (at.1 ++ 10 ∷ []) cs c (at.5 ++ 10 ∷ []) [] (chunks_more at.1 (10 ∷ []) cs at.5 at.6) chunk,
             omega (arith, size_more cs c, all, x.4, joined_length cs),
-            (data_is, line, open_line_nil),
+            (data_is, line, open_line_nil, nothing_so IsPartOfLine new.calm [] calm),
           ),
       inl (ap awaits_in now.phase_is),
     ))
@@ -408,8 +448,9 @@ chunk_ends old new rest is now =
 pub trailers_go_on : (old new : FrameReader) (piece part : List ℕ) (room len : ℕ) → old.phase ≡ phase.Trailers
     → IsPart piece room part → IsTrailersTurn (old.line.items ++ part) (length old.line.items) (trailers.Open len)
     → Became old new phase.Trailers old.waits old.head.items old.body.items (take len (old.line.items ++ part))
+    → (IsPartOfTrailers new.line.items → TrailersStay new.calm new.line.items)
     → Feeds old piece (len - length old.line.items) new
-trailers_go_on old new piece part room len is (j, fits, in_room, some, part_is) ((more, inside), begun) now =
+trailers_go_on old new piece part room len is (j, fits, in_room, some, part_is) ((more, inside), begun) now calm =
     let front = grown old.line.items part piece j len part_is fits (omega (arith, more)) inside in
     let n = len - length old.line.items in
     feeds_of old new piece n front.1 (omega (arith, more))
@@ -429,7 +470,42 @@ trailers_go_on old new piece part room len is (j, fits, in_room, some, part_is) 
             x.2,
             subst IsOpenTrailers (sym now.line_is) begun,
             now.body_is ∙ x.4,
+            let here : IsOpenTrailers new.line.items = subst IsOpenTrailers (sym now.line_is) begun in calm (here.1, here.2),
           ))),
+      inl (ap awaits_in now.phase_is),
+    ))
+
+-- bytes of which it is known that they leave the trailers unfinished
+pub trailers_stay : (old new : FrameReader) (piece part : List ℕ) (room : ℕ) → old.phase ≡ phase.Trailers → 0 < length piece
+    → IsPart piece room part → length old.line.items + length part < 65536
+    → is_calm (calm_behind old.calm part) ≡ true → new.calm ≡ calm_behind old.calm part
+    → Became old new phase.Trailers old.waits old.head.items old.body.items (old.line.items ++ part)
+    → Feeds old piece (length part) new
+trailers_stay old new piece part room is there (j, fits, in_room, some, part_is) few known calm now =
+    let size : length part ≡ j = ap length part_is ∙ length-take-le j piece fits in
+    let front : take (length part) piece ≡ part = ap (λ (n : ℕ). take n piece) size ∙ sym part_is in
+    let short : length (old.line.items ++ part) < 65536 = omega (arith, few, length-append old.line.items part) in
+    feeds_of old new piece (length part) (omega (arith, size, fits)) (omega (arith, size, some there))
+    (λ limits bytes fed.
+    let at = stands_at phase.Trailers limits old bytes is fed in (
+      fed_at phase.Trailers limits new _ (now.limits_are ∙ fed.limits_are, fed.narrow) now.phase_is
+          (record {
+            head = omega (arith, ap length now.head_is, fed.within.head);
+            data_in = omega (arith, ap length now.body_is, fed.within.data_in);
+            line = omega (arith, ap length now.line_is, short);
+          })
+          (subst (λ (t : List ℕ). IsInChunks limits new (bytes ++ t) (IsInTrailers new)) (sym front)
+          (chunks_grow limits old new bytes part (IsInTrailers old) (IsInTrailers new) at now.head_is now.waits_is
+          (λ content behind x. (
+            x.0,
+            subst (λ (t : List ℕ). ReadsLine (behind ++ part) x.0 t) (sym now.line_is) (line_more behind part x.0 old.line.items x.1),
+            x.2,
+            subst IsOpenTrailers (sym now.line_is) (short, (x.5 part known).0, (x.5 part known).1),
+            now.body_is ∙ x.4,
+            subst (λ (c : Calm). TrailersStay c new.line.items) (sym calm)
+                (subst (TrailersStay (calm_behind old.calm part)) (sym now.line_is)
+                (stays_on IsPartOfTrailers old.calm old.line.items part x.5)),
+          )))),
       inl (ap awaits_in now.phase_is),
     ))
 
@@ -501,8 +577,8 @@ trailers_end old new piece part room len is (j, fits, in_room, some, part_is) (f
 -- ---- want of memory
 
 pub line_kept : (old new : FrameReader) → old.phase ≡ phase.Line
-    → Became old new phase.Line old.waits old.head.items old.body.items old.line.items → KeepsFed old new
-line_kept old new is now = (
+    → Became old new phase.Line old.waits old.head.items old.body.items old.line.items → new.calm ≡ old.calm → KeepsFed old new
+line_kept old new is now calm = (
   ap awaits_in (now.phase_is ∙ sym is),
   λ limits bytes fed.
       let at = stands_at phase.Line limits old bytes is fed in
@@ -524,13 +600,13 @@ line_kept old new is now = (
         at.5,
         at.6,
         at.7,
-        (now.body_is ∙ at.8.0, now.line_is ∙ at.8.1, at.8.2),
+        (now.body_is ∙ at.8.0, now.line_is ∙ at.8.1, at.8.2, subst (λ (c : Calm). LineStays c at.5) (sym calm) at.8.3),
       ),
 )
 
 pub trailers_kept : (old new : FrameReader) → old.phase ≡ phase.Trailers
-    → Became old new phase.Trailers old.waits old.head.items old.body.items old.line.items → KeepsFed old new
-trailers_kept old new is now = (
+    → Became old new phase.Trailers old.waits old.head.items old.body.items old.line.items → new.calm ≡ old.calm → KeepsFed old new
+trailers_kept old new is now calm = (
   ap awaits_in (now.phase_is ∙ sym is),
   λ limits bytes fed.
       let at = stands_at phase.Trailers limits old bytes is fed in
@@ -558,6 +634,7 @@ trailers_kept old new is now = (
           at.8.2,
           subst IsOpenTrailers (sym now.line_is) at.8.3,
           now.body_is ∙ at.8.4,
+          subst (λ (c : Calm). TrailersStay c new.line.items) (sym calm) (subst (TrailersStay old.calm) (sym now.line_is) at.8.5),
         ),
       ),
 )

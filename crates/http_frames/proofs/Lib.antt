@@ -25,3 +25,5 @@ mod EndLemmas
 mod ChunkFeedLemmas
 mod AlikeLemmas
 mod WaitLemmas
+mod CalmLemmas
+mod CalmLineLemmas

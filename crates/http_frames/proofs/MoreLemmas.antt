@@ -30,7 +30,7 @@ take_grows P k t more grow x =
 
 -- ---- heads
 
-all_front : (test : ℕ → Bool) (x m : List ℕ) → AllPass test (x ++ m) → AllPass test x
+pub all_front : (test : ℕ → Bool) (x m : List ℕ) → AllPass test (x ++ m) → AllPass test x
 all_front test [] m all = All-nil (λ v. test v ≡ true)
 all_front test (b ∷ x) m all =
     let P : ℕ → Type 0 = λ v. test v ≡ true in

@@ -17,6 +17,7 @@ use Rattle.http_frames.specs.declared.frames.Step.TheVariants as front
 use Rattle.http_frames.specs.Heads.{ReadsHead, IsOpenHead}
 use Rattle.http_frames.specs.Chunks.{Chunk, size_of, parts_of, joined, ReadsLine, ReadsChunks, IsOpenLine, IsOpenTrailers}
 use Rattle.http_frames.specs.Frames.{IsRefused, IsAwaited, IsWhole, IsAccepted, HasHead, framing_of, expects}
+use Rattle.http_frames.specs.Calm.{StaysOpen, LineStays, TrailersStay}
 use Rattle.http_frames.specs.FrameSteps.{HasParts, IsFrameHead, NotRefused}
 
 -- ---- where a reader stands
@@ -31,12 +32,13 @@ pub record IsWithinLimits (limits : FrameLimits) (r : FrameReader) : Type 0 wher
   pub data_in : length r.body.items ≤ limits.body
   pub line : length r.line.items ≤ 65536
 
--- in the head: all bytes are kept
+-- in the head: all bytes are kept, and it is known which bytes leave it unfinished
 pub record IsInHead (limits : FrameLimits) (r : FrameReader) (bytes : List ℕ) : Type 0 where
   pub kept : r.head.items ≡ bytes
   pub none : (r.body.items ≡ []) × (r.line.items ≡ []) × (r.waits ≡ false)
   pub begun : IsOpenHead bytes
   pub short : length bytes < limits.head
+  pub calm : StaysOpen r.calm bytes
 
 -- behind an accepted head, which is kept
 pub record IsBehindHead (limits : FrameLimits) (r : FrameReader) (bytes : List ℕ) (h : RequestHead) (rest : List ℕ) : Type 0 where
@@ -59,7 +61,8 @@ IsInChunks limits r bytes Then =
 
 -- in a chunk line, which is kept
 abbrev pub IsInLine : FrameReader → List ℕ → List ℕ → Type 0
-IsInLine r content behind = (r.body.items ≡ content) × (r.line.items ≡ behind) × IsOpenLine behind
+IsInLine r content behind =
+    (r.body.items ≡ content) × (r.line.items ≡ behind) × IsOpenLine behind × LineStays r.calm behind
 
 -- behind a chunk line, in that chunk's data, of which so many bytes are to come, and behind it
 abbrev pub IsInData : FrameLimits → FrameReader → ℕ → List ℕ → List ℕ → List ℕ → Type 0
@@ -72,7 +75,7 @@ IsInData limits r left end content behind =
 abbrev pub IsInTrailers : FrameReader → List ℕ → List ℕ → Type 0
 IsInTrailers r content behind =
     (l : ChunkLine) × ReadsLine behind l r.line.items × (chunk_size l ≡ 0) × IsOpenTrailers r.line.items
-    × (r.body.items ≡ content)
+    × (r.body.items ≡ content) × TrailersStay r.calm r.line.items
 
 -- whole: the head and the data are kept
 abbrev pub IsAtEnd : FrameLimits → FrameReader → List ℕ → Type 0

@@ -3,6 +3,7 @@
 
 ghost use Rattle.std.specs.Prelude.{◌≡◌, ◌≤◌, length, take, drop};
 
+mod calm;
 mod chunks;
 mod fields;
 mod frames;
@@ -10,11 +11,7 @@ mod heads;
 mod laws;
 mod plain;
 mod reader;
-#[cfg(test)]
-mod reader_tests;
 mod replies;
-#[cfg(test)]
-mod tests;
 mod turns;
 mod writing;
 

@@ -4,9 +4,12 @@ ghost use Rattle.http_frames.specs.declared.frames.FrameLimits.{FrameLimits};
 ghost use Rattle.http_frames.specs.Feeding.{Fed, StandsForSome, IsFirstPhase, IsPhaseBehind, IsPhaseBehindLine, IsPhaseOfSized, IsPhaseOfData, IsPhaseAt, IsAtEnd, awaits_more, is_whole, is_whole_step, is_more, bytes_kept, IsReaderStep, IsHeadFound, IsWaiting, Feeds, KeepsFed};
 
 use crate::FrameFault;
+use crate::calm::{
+    Calm, calm_behind, calm_of_chunk_line, calm_of_head, calm_of_trailers, is_blank, is_calm,
+};
 use crate::fields::Framing;
 use crate::frames::{Body, Frame, FrameLimits, Head, frame_of};
-use crate::heads::{HeadStep, from_start_line, read_head};
+use crate::heads::{HeadStep, read_head};
 use crate::turns::{
     HeadTurn, LineTurn, TrailersTurn, head_turn, line_turn, next_part, trailers_turn,
 };
@@ -54,6 +57,8 @@ pub enum ReaderStep<'a> {
 pub struct FrameReader {
     limits: FrameLimits,
     phase: Phase,
+    /// Which bytes leave an unfinished head, chunk line or section of trailers unfinished.
+    calm: Calm,
     /// The head is accepted, and its client waits for `100 Continue`.
     waits: bool,
     head: Vec<u8>,
@@ -69,6 +74,7 @@ impl FrameReader {
         FrameReader {
             limits,
             phase: first_phase(limits),
+            calm: Calm::Blank,
             waits: false,
             head: Vec::new(alloc),
             body: Vec::new(alloc),
@@ -154,6 +160,7 @@ impl FrameReader {
         self.body.clear();
         self.line.clear();
         self.waits = false;
+        self.calm = Calm::Blank;
         self.phase = first_phase(self.limits);
     }
 
@@ -201,12 +208,17 @@ impl FrameReader {
     {
         let old = self.head.len();
         let room = self.limits.head as usize - old;
-        let has_begun = !from_start_line(self.head.as_slice()).is_empty();
-        self.head
-            .extend_from_slice(next_part(piece, room, has_begun))?;
+        let part = next_part(piece, room, !is_blank(self.calm));
+        let calm = calm_behind(self.calm, part);
+        self.head.extend_from_slice(part)?;
+        if is_calm(calm) && part.len() < room {
+            self.calm = calm;
+            return Ok(part.len());
+        }
         match head_turn(self.head.as_slice(), old, self.limits) {
             HeadTurn::Open(len) => {
                 self.head.truncate(len);
+                self.calm = calm_of_head(self.head.as_slice());
                 Ok(len - old)
             }
             HeadTurn::Bad(why) => {
@@ -220,6 +232,7 @@ impl FrameReader {
                 waits,
             } => {
                 self.head.truncate(len);
+                self.calm = Calm::Nothing;
                 self.waits = waits;
                 self.phase = phase_behind(framing);
                 Ok(len - old)
@@ -249,11 +262,18 @@ impl FrameReader {
         ensures kept { OnErr result (KeepsFed self.old self.new) }
     {
         let old = self.line.len();
-        self.line
-            .extend_from_slice(next_part(piece, 4096 - old, true))?;
+        let room = 4096 - old;
+        let part = next_part(piece, room, true);
+        let calm = calm_behind(self.calm, part);
+        self.line.extend_from_slice(part)?;
+        if is_calm(calm) && part.len() < room {
+            self.calm = calm;
+            return Ok(part.len());
+        }
         match line_turn(self.line.as_slice(), old) {
             LineTurn::Open(len) => {
                 self.line.truncate(len);
+                self.calm = calm_of_chunk_line(self.line.as_slice());
                 Ok(len - old)
             }
             LineTurn::Bad => {
@@ -263,6 +283,7 @@ impl FrameReader {
             }
             LineTurn::Whole { len, size } => {
                 self.line.clear();
+                self.calm = Calm::Nothing;
                 self.phase = self.phase_behind_line(size);
                 Ok(len - old)
             }
@@ -313,6 +334,7 @@ impl FrameReader {
         requires some { 0 < length piece.now }
         ensures { Feeds self.old piece.now result self.new }
     {
+        self.calm = Calm::Nothing;
         self.phase = phase_at(b'\n', Phase::Line, piece[0]);
         1
     }
@@ -325,11 +347,18 @@ impl FrameReader {
         ensures kept { OnErr result (KeepsFed self.old self.new) }
     {
         let old = self.line.len();
-        self.line
-            .extend_from_slice(next_part(piece, 65536 - old, true))?;
+        let room = 65536 - old;
+        let part = next_part(piece, room, true);
+        let calm = calm_behind(self.calm, part);
+        self.line.extend_from_slice(part)?;
+        if is_calm(calm) && part.len() < room {
+            self.calm = calm;
+            return Ok(part.len());
+        }
         match trailers_turn(self.line.as_slice(), old) {
             TrailersTurn::Open(len) => {
                 self.line.truncate(len);
+                self.calm = calm_of_trailers(self.line.as_slice());
                 Ok(len - old)
             }
             TrailersTurn::Bad => {
