@@ -14,3 +14,4 @@ mod WantLemmas
 mod StartLemmas
 mod RouteLemmas
 mod SpentLemmas
+mod PauseLemmas

@@ -31,7 +31,7 @@ abbrev pub Begun : Option (List ℕ) → List Step → Type 0
 Begun None steps = steps ≡ []
 Begun (Some nodes) steps = Begins nodes steps
 
--- ---- want of memory in them, at a call or at an exchange; the slot of a session that was ended is freed all the same
+-- ---- out of memory in them, at a call or at an exchange; the slot of a session that was ended is freed all the same
 pub data ExpireLacks : List Step → Type 0 where
   expire_lacks : (at : ℕ) → ExpireLacks (Called Call.expire at None ∷ [])
   not_sent : (at at' : ℕ) (c : Closing) → c.quit ≡ true →

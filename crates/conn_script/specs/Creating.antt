@@ -129,7 +129,7 @@ abbrev pub EnqueueTurns : HubAnswer → Turn → Bool → Type 0
 EnqueueTurns answer t close =
     (choices : List (List Cap)) (at : ℕ) → Turns CreatesOn (Asks choices) (AskLacks choices) (call_step answer (Call.enqueue choices) at ∷ []) close t
 
--- no want of memory ends the rounds
+-- being out of memory does not end the rounds
 abbrev pub NeverStops : List Step → Type 0
 NeverStops steps = ⊥
 
@@ -142,7 +142,7 @@ abbrev pub PauseTurns : Ticket → Turn → Type 0
 PauseTurns u t = (close : Bool) → Turns CreatesOn (AfterPause u) NeverStops (Paused poll_pause ∷ []) close t
 
 -- A start has made these steps by now. It goes on and is not over; or it is over and the request is polled again; or it found the hub
--- spent. Whether it met want of memory is told where it ends.
+-- spent. Whether it was out of memory is told where it ends.
 abbrev pub StartGoesOn : Ticket → Reservation → List Step → Run → Bool → Type 0
 StartGoesOn t r by_now (run.Creating (creating.Starting u carry)) short =
     (u ≡ t) × (place : Place) × Stands carry r place by_now × ((w : Wanted) × want_of (wanted_at r place) w) × (is_fresh carry ≡ true) × (short ≡ false)

@@ -49,7 +49,7 @@ pub data DeleteSession (id : List ℕ) : List Step → Response → Type 0 where
   no_name : is_session_name id ≡ false → DeleteSession id [] no_such_session
   named : (steps : List Step) (response : Response) → is_session_name id ≡ true → AsksWhere id steps response → DeleteSession id steps response
 
--- ---- where want of memory ends the steps: the end found none; or the exchange did, and the slot was freed all the same
+-- ---- where being out of memory ends the steps: the end found none; or the exchange did, and the slot was freed all the same
 
 pub data FreesLast (c : Closing) : List Step → Type 0 where
   frees : (at : ℕ) → FreesLast c (Called (Call.freed c) at (Some Reply.is_freed) ∷ [])

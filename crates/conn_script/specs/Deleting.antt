@@ -50,7 +50,7 @@ abbrev pub is_lacking : Quitted → Bool
 is_lacking quitted.Memory = true
 is_lacking q = false
 
--- what a hub that is spent leads to there: want of memory came first
+-- what a hub that is spent leads to there: out of memory came first
 abbrev pub IsFreeSpent : Quitted → Turn → Type 0
 IsFreeSpent quitted.Memory t = t ≡ turn.Lacks
 IsFreeSpent q t = IsSpentTurn t

@@ -21,3 +21,4 @@ pub mod Moving
 pub mod WorkLaws
 pub mod Routing
 pub mod SpentLooks
+pub mod Pauses

@@ -47,7 +47,7 @@ fault_text frame.OtherCoding = codes "coding"
 abbrev pub refusal : FrameFault → Response
 refusal fault = failure code.InvalidArgument (codes "bad request: " ++ fault_text fault)
 
--- a place in a body, counted in bytes from 0; want of memory is answered by no response
+-- a place in a body, counted in bytes from 0; out of memory is answered by no response
 abbrev pub json_fault_text : JsonFault → List ℕ
 json_fault_text json.NotUtf8 = codes "body is not UTF-8"
 json_fault_text (json.Syntax at) = codes "body is not JSON at byte " ++ decimal at

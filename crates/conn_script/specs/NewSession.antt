@@ -21,7 +21,7 @@ pub data SpentStart (r : Reservation) : List Step → Type 0 where
   spent_at : (steps : List Step) (place : Place) (call : Call) (at : ℕ) → Leads r place steps → wanted_at r place ≡ to_call call →
       SpentStart r (steps ++ Spent call at ∷ [])
 
--- rounds of polls until the request is settled: after NotYet and after want of memory a pause, after Yours a start
+-- rounds of polls until the request is settled: after NotYet and after it was out of memory a pause, after Yours a start
 pub data Rounds : Ticket → List Step → Response → Type 0 where
   not_yet : {t : Ticket} {steps : List Step} {response : Response} (at : ℕ) (u : Ticket) → Rounds u steps response →
       Rounds t (Called (Call.poll t) at (Some (Reply.not_yet u)) ∷ Paused poll_pause ∷ steps) response
@@ -49,7 +49,7 @@ pub data NewSession (body : List ℕ) : List Step → Response → Type 0 where
   asks : {steps : List Step} {response : Response} (choices : List (List Cap)) → BodyGives body (Ok choices) → Asks choices steps response →
       NewSession body steps response
 
--- where want of memory ends the steps: only where the request is not queued yet
+-- where being out of memory ends the steps: only where the request is not queued yet
 pub data AskLacks (choices : List (List Cap)) : List Step → Type 0 where
   ask_lacks : (at : ℕ) → AskLacks choices (Called (Call.enqueue choices) at None ∷ [])
 

@@ -61,7 +61,7 @@ pub data Relay (ask : Ask) (id : List ℕ) : List Step → Response → Type 0 w
   no_name : is_session_name id ≡ false → Relay ask id [] no_such_session
   named : (steps : List Step) (response : Response) → is_session_name id ≡ true → FindsNode ask id steps response → Relay ask id steps response
 
--- ---- where want of memory ends the steps: at the touch, or in the exchange
+-- ---- where being out of memory ends the steps: at the touch, or in the exchange
 
 pub data ExchangeLacks (ask : Ask) (address : List ℕ) : List Step → Type 0 where
   not_sent : ExchangeLacks ask address (Exchanged address ask (Err Memory) ∷ [])

@@ -57,7 +57,7 @@ abbrev pub AsksToRelay : List ℕ → List ℕ → Turn → Bool → Type 0
 AsksToRelay id target turn close =
     (f : Request) → Turns (RunsOn f) (Relay (relayed f target) id) (OrNone (RelayLacks (relayed f target) id)) [] close turn
 
--- what comes of a body that is refused for this fault, unless it is want of memory
+-- what comes of a body that is refused for this fault, unless it is out of memory
 abbrev pub IsRegistrationRefused : RegFault → Turn → Bool → Type 0
 IsRegistrationRefused fault turn close =
     (body : List ℕ) → (fault ≢ reg.Memory → RegistrationGives body (Err fault)) → AsksToRegister body turn close

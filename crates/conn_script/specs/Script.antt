@@ -42,7 +42,7 @@ route f = route_of f.0.method f.0.target
 unfoldable pub Script : Request → List Step → Response → Type 0
 Script f steps response = ByRoute (route f) f steps response
 
--- ---- want of memory after which a script does not go on
+-- ---- out of memory after which a script does not go on
 
 -- at a step, by the route
 abbrev pub StepLacks : Result Route RouteFault → Request → List Step → Type 0
@@ -58,7 +58,7 @@ StepLacks (Ok (remove id)) f steps = NodeCallLacks Call.remove id steps
 StepLacks (Ok (drain id)) f steps = NodeCallLacks Call.drain id steps
 StepLacks (Ok (beat id)) f steps = NodeCallLacks Call.beat id steps
 
--- The steps of a request that want of memory ended: before its first step, at a step, or behind all, where its response
+-- The steps of a request that ended out of memory: before its first step, at a step, or behind all, where its response
 -- could not be built, and what that calls for was done. No token is left.
 pub data Lacks (f : Request) : List Step → Type 0 where
   before_all : Lacks f []

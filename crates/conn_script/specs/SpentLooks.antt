@@ -26,7 +26,7 @@ abbrev pub FindsSpentOrNot : List Step → Type 0
 FindsSpentOrNot steps = (spent : Bool) × FindsSpent spent steps
 
 -- What goes before a request finds no spent hub. A script whose response is the last finds the hub spent at its last step, any
--- other not at all. Steps that want of memory ended find it at the last or not at all, and so does a script with the end of a
+-- other not at all. Steps that ended out of memory find it at the last or not at all, and so does a script with the end of a
 -- session of which its client could not be told.
 pub record SpentLaws : Type 0 where
   pub begun : (own : Option (List ℕ)) (steps : List Step) → Begun own steps → spent_looks steps ≡ 0

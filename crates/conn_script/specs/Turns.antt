@@ -19,7 +19,7 @@ abbrev pub responded_last : Result (List ℕ) NoMemory → Bool → Turn
 responded_last (Ok bytes) short = turn.RespondLast bytes short
 responded_last (Err e) short = turn.Lacks
 
--- the last response, after steps that met no want of memory, or none for want of memory
+-- the last response, after steps none of which was out of memory, or none where it is out of memory
 abbrev pub IsSpentTurn : Turn → Type 0
 IsSpentTurn (turn.Go run short) = ⊥
 IsSpentTurn (turn.Respond bytes) = ⊥
@@ -41,7 +41,7 @@ abbrev pub Stops : Type 1
 Stops = List Step → Type 0
 
 -- The script that `completes` and `stops` complete has made these steps, and is over or goes on with another run: its response is
--- built, or could not be built, or memory was wanted at a step. It is told whether it goes on after a want of memory.
+-- built, or could not be built, or memory was wanted at a step. It is told whether it goes on after it was out of memory.
 abbrev pub Turns : (Run → Completes → Stops → Type 0) → Completes → Stops → List Step → Bool → Turn → Type 0
 Turns GoesOn completes stops made close (turn.Go run short) =
     GoesOn run (λ more response. completes (made ++ more) response) (λ more. stops (made ++ more)) × (short ≡ met_want made)

@@ -73,7 +73,7 @@ kind_of Call.expire = Kind.other
 kind_of Call.clear = Kind.clear
 kind_of Call.view = Kind.view
 
--- calls that need room in a journal or a map and hand no token in; none of them has an answer of its own for want of memory
+-- calls that need room in a journal or a map and hand no token in; none of them has an answer of its own for being out of memory
 abbrev pub NeedsRoom : Kind → Type 0
 NeedsRoom Kind.beat = Unit {0}
 NeedsRoom Kind.drain = Unit {0}
@@ -102,14 +102,14 @@ FitsKind (answers.View a) k = k ≡ Kind.view
 FitsKind (answers.Spent s) k = Unit {0}
 FitsKind answers.NoRoom k = NeedsRoom k
 
--- for want of memory what was handed in comes back
+-- out of memory, what was handed in comes back
 abbrev pub Keeps : HubAnswer → Call → Type 0
 Keeps (answers.Register a) (Call.register node) = KeepsRegistration node a
 Keeps (answers.Poll a) (Call.poll t) = KeepsTicket t a
 Keeps (answers.Bind a) (Call.bind r session caps) = KeepsReservation r session a
 Keeps answer call = Unit {0}
 
--- the reply in an answer; none for want of memory
+-- the reply in an answer; none where it is out of memory
 abbrev pub reply_of : HubAnswer → Option Reply
 reply_of (answers.Register a) = registering_reply a
 reply_of (answers.Beat a) = beating_reply a
@@ -246,7 +246,7 @@ Readies (wants.Done result) awaited held = Unit {0}
 
 -- ---- what an answer to a want adds
 
--- for want of memory in a call, what was handed in came back
+-- out of memory in a call, what was handed in came back
 abbrev pub Fits : Answer → Wanted → Type 0
 Fits (told.Hub answer) (to_call call) = FitsKind answer (kind_of call) × Keeps answer call
 Fits (told.Hub answer) w = ⊥

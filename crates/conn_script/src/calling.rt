@@ -27,6 +27,7 @@ pub enum Asked {
     Queue,
 }
 
+/// A request that is one call of the hub: the call is to be made, or was handed out.
 #[derive(Drop)]
 pub enum Calling {
     /// The call is to be handed out.
@@ -34,7 +35,7 @@ pub enum Calling {
     Asked(Asked),
 }
 
-/// The response to what the hub answered; none for want of memory.
+/// The response to what the hub answered; none where it is out of memory.
 fn response_to(
     alloc: Global,
     asked: Asked,
@@ -82,7 +83,7 @@ fn removed(alloc: Global, answer: Removal, close: bool) -> Result<Bytes, NoMemor
     }
 }
 
-// The response with what the hub shows.
+/// The response with what the hub shows.
 fn viewed(
     alloc: Global,
     asked: Asked,

@@ -136,7 +136,7 @@ fn poll_told(alloc: Global, request: ReqNo, answer: Polled, close: bool) -> Turn
     }
 }
 
-// What the outcome leads to.
+/// What the outcome leads to.
 fn outcome_told(alloc: Global, request: ReqNo, outcome: &Outcome, close: bool) -> Turn
     ensures turns { PollTurns request (answers.Poll (told.Settled outcome.now)) result close }
     ensures ready { IsReady result [] }

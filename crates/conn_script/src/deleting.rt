@@ -19,12 +19,15 @@ use std::alloc::Global;
 /// What came of the exchange with the node.
 #[derive(Clone, Copy)]
 pub enum Quitted {
+    /// It replied, with whatever status.
     Http,
     NotHttp,
     Unreachable,
+    /// The exchange was not made: out of memory.
     Memory,
 }
 
+/// How far a Delete Session (WebDriver §8.2) has come.
 #[derive(Drop)]
 pub enum Deleting {
     Lookup(SessionId),
@@ -33,6 +36,7 @@ pub enum Deleting {
     Ending(SessionId, ReqNo),
     /// The node is to be asked to end the session.
     Quit(Closing, SessionPath),
+    /// The slot is to be freed, after this came of the exchange.
     Free(Closing, Quitted),
     Freeing(Quitted),
 }
@@ -50,7 +54,7 @@ pub fn looked_up(alloc: Global, session: SessionId, answer: HubAnswer, close: bo
     }
 }
 
-// What the hub's own answer to the lookup leads to.
+/// What the hub's own answer to the lookup leads to.
 fn found_told(alloc: Global, session: SessionId, found: Found, close: bool) -> Turn
     ensures turns { LookupTurns session (answers.Lookup found) result close }
     ensures ready { IsReady result [] }
@@ -64,7 +68,7 @@ fn found_told(alloc: Global, session: SessionId, found: Found, close: bool) -> T
     }
 }
 
-// What the hub's own answer to the end leads to.
+/// What the hub's own answer to the end leads to.
 fn end_told(alloc: Global, session: &SessionId, ending: Ending, close: bool) -> Turn
     ensures turns { (b : ℕ) → EndTurns session.now b (answers.End ending) result close }
     ensures ready { IsReady result (ending_tokens ending) }
@@ -153,7 +157,7 @@ pub fn freed(alloc: Global, quitted: Quitted, answer: HubAnswer, close: bool) ->
     }
 }
 
-// What the hub's own answer leads to there.
+/// What the hub's own answer leads to there.
 fn free_told(alloc: Global, quitted: Quitted, _: HubAnswer, close: bool) -> Turn
     ensures turns { FreeTurns quitted answers.Freed result close }
     ensures ready { IsReady result [] }
@@ -162,7 +166,7 @@ fn free_told(alloc: Global, quitted: Quitted, _: HubAnswer, close: bool) -> Turn
     respond(quit_response(alloc, quitted, close))
 }
 
-// What a hub that is spent leads to there. Want of memory came first.
+/// What a hub that is spent leads to there. Out of memory came first.
 fn free_spent(alloc: Global, quitted: Quitted) -> Turn
     ensures turns { IsFreeSpent quitted result }
     ensures ready { IsReady result [] }

@@ -9,7 +9,7 @@ mod laws;
 mod messages;
 mod relaying;
 mod request;
-mod responses;
+pub mod responses;
 mod routing;
 mod running;
 mod turn;
@@ -20,7 +20,7 @@ mod work;
 pub use calling::{Asked, Calling};
 pub use creating::Creating;
 pub use deleting::{Deleting, Quitted};
-pub use laws::scripts_find_spent_last;
+pub use laws::{scripts_find_spent_last, scripts_pause_behind_polls};
 pub use relaying::Relaying;
 pub use request::Whole;
 pub use responses::refusal;
@@ -29,6 +29,3 @@ pub use turn::{Run, Turn};
 pub use undoing::Undoing;
 pub use wants::{Answer, ConnFault, End, HubAnswer, HubCall, LIMIT, PAUSE, PIECE, Served, Want};
 pub use work::first_turns_are_within;
-
-#[cfg(test)]
-mod tests;

@@ -43,7 +43,7 @@ pub fn node_found(
     }
 }
 
-// What the hub's own answer to the lookup leads to.
+/// What the hub's own answer to the lookup leads to.
 fn found_told(alloc: Global, session: SessionId, target: Bytes, found: Found, close: bool) -> Turn
     ensures turns { FindTurns session target (answers.Lookup found) result close }
     ensures ready { IsReady result [] }
@@ -83,7 +83,7 @@ pub fn touched(
     }
 }
 
-// What the hub's own answer to the touch leads to.
+/// What the hub's own answer to the touch leads to.
 fn touch_told(
     alloc: Global,
     address: NodeAddress,
@@ -114,7 +114,7 @@ pub fn exchanged(alloc: Global, came: Result<Reply, ExchangeFault>, close: bool)
     }
 }
 
-// What it leads to where there was no exchange.
+/// What it leads to where there was no exchange.
 fn not_exchanged(alloc: Global, fault: ExchangeFault, close: bool) -> Turn
     ensures turns { ExchangeTurns (Err fault) result close }
     ensures ready { IsReady result [] }

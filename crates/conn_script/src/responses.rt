@@ -62,6 +62,7 @@ pub fn hub_spent(alloc: Global) -> Result<Bytes, NoMemory>
     failure(alloc, ErrorCode::UnknownError, "hub is spent", true)
 }
 
+/// The response where no row of the table has the path (WebDriver §6.6).
 pub fn unknown_command(alloc: Global, close: bool) -> Result<Bytes, NoMemory>
     ensures { IfOk result (λ bytes. bytes ≡ texts.bytes_of words.unknown_command close) }
 {
@@ -73,6 +74,7 @@ pub fn unknown_command(alloc: Global, close: bool) -> Result<Bytes, NoMemory>
     )
 }
 
+/// The response where the path's row has another method (WebDriver §6.6).
 pub fn unknown_method(alloc: Global, close: bool) -> Result<Bytes, NoMemory>
     ensures { IfOk result (λ bytes. bytes ≡ texts.bytes_of words.unknown_method close) }
 {
@@ -84,12 +86,14 @@ pub fn unknown_method(alloc: Global, close: bool) -> Result<Bytes, NoMemory>
     )
 }
 
+/// The response where no session of the id is live (WebDriver §6.6).
 pub fn no_such_session(alloc: Global, close: bool) -> Result<Bytes, NoMemory>
     ensures { IfOk result (λ bytes. bytes ≡ texts.bytes_of words.no_such_session close) }
 {
     failure(alloc, ErrorCode::InvalidSessionId, "no such session", close)
 }
 
+/// The response where no registered node has the number.
 pub fn no_such_node(alloc: Global, close: bool) -> Result<Bytes, NoMemory>
     ensures { IfOk result (λ bytes. bytes ≡ texts.bytes_of words.no_such_node close) }
 {
@@ -110,6 +114,7 @@ pub fn refusal(alloc: Global, fault: FrameFault) -> Result<Bytes, NoMemory>
     failure(alloc, ErrorCode::InvalidArgument, message.as_str(), true)
 }
 
+/// The response to a New Session whose body is refused. Out of memory is that of the body too.
 pub fn caps_refusal(alloc: Global, fault: &CapsFault, close: bool) -> Result<Bytes, NoMemory>
     ensures { IfOk result (λ bytes. bytes ≡ texts.bytes_of (words.caps_refusal fault.now) close) }
 {
@@ -117,6 +122,7 @@ pub fn caps_refusal(alloc: Global, fault: &CapsFault, close: bool) -> Result<Byt
     failure(alloc, ErrorCode::InvalidArgument, message.as_str(), close)
 }
 
+/// The response to a registration whose body is refused. Out of memory is that of the body too.
 pub fn reg_refusal(alloc: Global, fault: &RegFault, close: bool) -> Result<Bytes, NoMemory>
     ensures { IfOk result (λ bytes. bytes ≡ texts.bytes_of (words.reg_refusal fault.now) close) }
 {
@@ -130,7 +136,7 @@ fn numbers_are_spent(alloc: Global, close: bool) -> Result<Bytes, NoMemory>
     failure(alloc, ErrorCode::UnknownError, "numbers are spent", close)
 }
 
-/// The response to a request that the hub did not queue. Want of memory is that of the hub too.
+/// The response to a request that the hub did not queue. Out of memory is that of the hub too.
 pub fn enqueue_refusal(alloc: Global, answer: &Enqueued, close: bool) -> Result<Bytes, NoMemory>
     ensures { IfOk result (λ bytes. Responds (enqueued_reply answer.now) words.enqueue_refusal bytes close) }
 {
@@ -149,7 +155,7 @@ pub fn enqueue_refusal(alloc: Global, answer: &Enqueued, close: bool) -> Result<
     }
 }
 
-/// The response to a registration. Want of memory is that of the hub too.
+/// The response to a registration. Out of memory is that of the hub too.
 pub fn registered(alloc: Global, answer: &Registering, close: bool) -> Result<Bytes, NoMemory>
     ensures { IfOk result (λ bytes. Responds (registering_reply answer.now) words.register_response bytes close) }
 {
@@ -171,6 +177,7 @@ pub fn registered(alloc: Global, answer: &Registering, close: bool) -> Result<By
     }
 }
 
+/// The response to a clearing of the queue, which settled so many requests.
 pub fn cleared(alloc: Global, count: u32, close: bool) -> Result<Bytes, NoMemory>
     ensures { IfOk result (λ bytes. bytes ≡ texts.bytes_of (texts.success (decimal count)) close) }
 {
@@ -245,12 +252,14 @@ fn lent(value: &Option<Bytes>) -> Option<&[u8]>
     }
 }
 
+/// The response where the session's node is unreachable.
 pub fn node_unreachable(alloc: Global, close: bool) -> Result<Bytes, NoMemory>
     ensures { IfOk result (λ bytes. bytes ≡ texts.bytes_of words.node_unreachable close) }
 {
     failure(alloc, ErrorCode::UnknownError, "node is unreachable", close)
 }
 
+/// The response where the session's node replied by something else than HTTP.
 pub fn node_not_http(alloc: Global, close: bool) -> Result<Bytes, NoMemory>
     ensures { IfOk result (λ bytes. bytes ≡ texts.bytes_of words.node_not_http close) }
 {

@@ -24,7 +24,7 @@ pub enum Run {
     Creating(Creating),
 }
 
-/// What comes next in a script. It is told whether the steps that are settled by it met want of memory.
+/// What comes next in a script. It is told whether the steps that are settled by it were out of memory.
 #[derive(Drop)]
 pub enum Turn {
     Go(Run, bool),

@@ -67,7 +67,7 @@ fn undo_told(session: &SessionId, ending: Ending) -> Undoing
     }
 }
 
-// The session is gone, or stays until it is idle.
+/// The session is gone, or stays until it is idle.
 fn let_go(_: HubAnswer) -> Undoing
     ensures { result ≡ undoing.Over }
 {

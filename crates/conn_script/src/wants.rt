@@ -25,7 +25,7 @@ pub struct Served {
     /// The whole requests that were answered.
     pub frames: u64,
     pub end: End,
-    /// Whether it went on after a want of memory.
+    /// Whether it went on after it was out of memory.
     pub short: bool,
 }
 
@@ -99,25 +99,31 @@ pub enum HubAnswer {
 pub enum Want<'a> {
     /// To read a piece of at most so many bytes.
     Read(u32),
+    /// To write some of these bytes, from the first on.
     Write(&'a [u8]),
     /// To do what goes before each request.
     Begin,
     /// To make the call that `hub_call` hands out.
     Hub,
+    /// To ask the node at the address.
     Node(NodeAddress, NodeRequest<'a>),
     /// To wait for so many milliseconds.
     Pause(u64),
+    /// Nothing: the connection is over.
     Done(Result<Served, ConnFault>),
 }
 
 /// What came of a want.
 #[derive(Debug, Drop)]
 pub enum Answer<'a> {
+    /// A read gave these, one at least.
     Bytes(&'a [u8]),
     EndOfInput,
     ReadFailed,
+    /// A write took so many, one at least.
     Wrote(usize),
     WriteFailed,
+    /// What goes before a request was done.
     Begun,
     Hub(HubAnswer),
     Node(Result<Reply, ExchangeFault>),

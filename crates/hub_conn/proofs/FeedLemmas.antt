@@ -1,5 +1,5 @@
 -- What an answer adds to what a connection stands for.
-use Rattle.std.proofs.Common.{◌≡◌, ◌≢◌, ℕ, ◌+◌, ◌-◌, ◌<◌, ◌≤◌, min, Bool, true, List, [], ◌++◌, length, take, drop, refl, sym, ap, ◌∙◌, subst, arith, append-nil, append_assoc, length-append, length-drop, inl, inr}
+use Rattle.std.proofs.Common.{◌≡◌, ◌≢◌, ℕ, ◌+◌, ◌-◌, ◌<◌, ◌≤◌, min, Bool, true, false, List, [], ◌++◌, length, take, drop, refl, sym, ap, ◌∙◌, subst, arith, append-nil, append_assoc, length-append, length-drop, inl, inr}
 use Rattle.std.specs.Borrow.{Bor}
 use Rattle.std.specs.Prelude.{Option, Ok, Err}
 use Rattle.std.proofs.lemmas.List.{nil_from_length, take-take}
@@ -35,7 +35,8 @@ use Rattle.hub_conn.specs.Conversation.{Waits, Finished, MemoryBroke}
 use Rattle.hub_conn.specs.Inbox.{unread, Holds, HoldsSome, HoldsWhole}
 use Rattle.conn_script.specs.Work.{Outlook, turn_work, undo_work, queue_work}
 use Rattle.hub_conn.specs.Work.{bytes_left, FeedsLess, LeavesAtMost, TurnsTo, SendsSome, ContinuesSome}
-use Rattle.hub_conn.specs.Talk.{Rests, StandsForSome, IsAnswerable, HoldsNext, IsWriting, Answered, Standing, IsBetween, IsTurned, GoesOn, HasUndone, Feeds, Settles, Cause, of_read, of_write, of_end, of_nothing, cause_of, cause_after, blamed, state_cause, tokens, state_tokens, Stands, StandsNow, awaited, state_awaits, BreaksOff, SendsBy, ContinuesBy}
+use Rattle.hub_conn.specs.Talk.{Rests, StandsForSome, IsAnswerable, HoldsNext, IsWriting, Answered, Standing, IsBetween, IsTurned, GoesOn, HasUndone, Feeds, Settles, Cause, of_read, of_write, of_end, of_nothing, cause_of, cause_after, blamed, state_cause, tokens, state_tokens, Stands, StandsNow, awaited, state_awaits, BreaksOff, SendsBy, ContinuesBy, state_relays, HasLeft, writes_bytes, TurnWrites}
+use Rattle.hub_conn.proofs.PassLemmas.{few_plain, few_turn, sent_stays, none_stays, other_stays}
 use Rattle.hub_conn.proofs.ReadLemmas.{WholeStays, WholeTakes, reads_grow}
 use Rattle.hub_conn.proofs.StateLemmas.{in_state_of, done_stands}
 use Rattle.hub_conn.proofs.WorkLemmas.{done_less, reading_some_work, continuing_some_work, sent_feeds, continued_feeds, broken_less, begun_less, turn_less, undo_feeds}
@@ -59,12 +60,13 @@ tokens_in talk s e = ap state_tokens e
 
 -- from a state without a cause and without tokens
 pub feeds_plain : (old new : Talk) (answer : Answer) (s : State) (cause : Cause) → old.state ≡ s → state_cause s ≡ of_nothing → state_tokens s ≡ [] →
+    state_relays s ≡ false → ((n : ℕ) → answer ≡ told.Wrote n → HasLeft old.state n → writes_bytes new ≡ writes_bytes old) →
     Settles new cause [] → cause_of answer ≡ cause → told_tokens answer ≡ [] → FeedsLess old answer new →
     ((own : Option (List ℕ)) (w : Wanted) (bytes : List ℕ) (steps : List Step) (written : List ℕ) (made : List Step) →
     Stands old own w bytes steps written → Fits answer w → Made own answer w made →
     StandsNow new own (bytes ++ bytes_in answer) (steps ++ made) (written ++ taken_of answer w)) →
     Feeds old answer new
-feeds_plain old new answer s cause e free none settles cause_is brings less stands = record {
+feeds_plain old new answer s cause e free none apart stays settles cause_is brings less stands = record {
   fresh = settles.fresh;
   blames = settles.blames ∙ sym cause_is ∙ ap (λ (c : Cause). cause_after c answer) (sym (blamed_in old s e ∙ free));
   keeps = (
@@ -73,6 +75,7 @@ feeds_plain old new answer s cause e free none settles cause_is brings less stan
   );
   stands = stands;
   less = less;
+  few = few_plain old new answer s e apart stays;
 }
 
 -- no step, and no byte
@@ -173,7 +176,7 @@ pub feeds_came : WholeStays → OneHead → HeadStays → (old mid new : Talk) (
     mid.read ≡ old.read + length p.now → mid.begins ≡ old.begins → mid.frames ≡ old.frames → mid.short ≡ old.short → mid.continued ≡ old.continued →
     length p.now + old.read ≤ LIMIT → FeedsLess old (told.Bytes p) new → Feeds old (told.Bytes p) new
 feeds_came stays one head old mid new p e settles looks holds read begins frames short continued room less =
-    feeds_plain old new (told.Bytes p) states.Reading of_nothing e refl refl settles refl refl less (λ own w bytes steps written made st fits made_is.
+    feeds_plain old new (told.Bytes p) states.Reading of_nothing e refl refl refl (none_stays old new states.Reading (told.Bytes p) e (λ n x. x)) settles refl refl less (λ own w bytes steps written made st fits made_is.
     let x = in_state_of old states.Reading own w bytes steps written e st in
     nothing_made new own (bytes ++ p.now) steps made written made_is
     (looks own (bytes ++ p.now) steps written
@@ -182,7 +185,7 @@ feeds_came stays one head old mid new p e settles looks holds read begins frames
 pub feeds_came_broke : WholeStays → OneHead → HeadStays → (old new : Talk) (p : Bor (List ℕ)) → old.state ≡ states.Reading → Settles new of_nothing [] →
     new.state ≡ states.Done (Err faults.Memory) → Feeds old (told.Bytes p) new
 feeds_came_broke stays one head old new p e settles failed =
-    feeds_plain old new (told.Bytes p) states.Reading of_nothing e refl refl settles refl refl
+    feeds_plain old new (told.Bytes p) states.Reading of_nothing e refl refl refl (none_stays old new states.Reading (told.Bytes p) e (λ n x. x)) settles refl refl
     (done_less old new (told.Bytes p) states.Reading (Err faults.Memory) e failed (λ o. reading_some_work (bytes_left old))) (λ own w bytes steps written made st fits made_is.
     let x = in_state_of old states.Reading own w bytes steps written e st in
     nothing_made new own (bytes ++ p.now) steps made written made_is
@@ -211,7 +214,7 @@ piece_fits talk p x =
 pub feeds_read_failed : WholeTakes → NoneAccepted → (old new : Talk) → old.state ≡ states.Reading → Settles new of_read [] → new.state ≡ states.Done (Err faults.Read) →
     Feeds old told.ReadFailed new
 feeds_read_failed takes none old new e settles failed =
-    feeds_plain old new told.ReadFailed states.Reading of_read e refl refl settles refl refl
+    feeds_plain old new told.ReadFailed states.Reading of_read e refl refl refl (none_stays old new states.Reading told.ReadFailed e (λ n x. x)) settles refl refl
     (done_less old new told.ReadFailed states.Reading (Err faults.Read) e failed (λ o. reading_some_work (bytes_left old))) (λ own w bytes steps written made st fits made_is.
     let x = in_state_of old states.Reading own w bytes steps written e st in
     no_bytes new own bytes (steps ++ made) (written ++ [])
@@ -222,7 +225,7 @@ feeds_read_failed takes none old new e settles failed =
 pub feeds_closed : WholeTakes → NoneAccepted → (old new : Talk) → old.state ≡ states.Reading → Settles new of_end [] → old.begins ≡ old.read →
     new.state ≡ states.Done (Ok (record { frames = old.frames; end = ends.Closed; short = old.short })) → Feeds old told.EndOfInput new
 feeds_closed takes none old new e settles at ended =
-    feeds_plain old new told.EndOfInput states.Reading of_end e refl refl settles refl refl
+    feeds_plain old new told.EndOfInput states.Reading of_end e refl refl refl (none_stays old new states.Reading told.EndOfInput e (λ n x. x)) settles refl refl
     (done_less old new told.EndOfInput states.Reading (Ok (record { frames = old.frames; end = ends.Closed; short = old.short })) e ended (λ o. reading_some_work (bytes_left old))) (λ own w bytes steps written made st fits made_is.
     let x = in_state_of old states.Reading own w bytes steps written e st in
     let empty : x.rest ≡ [] = nil_from_length x.rest (omega (arith, at, x.counts.begins)) in
@@ -234,7 +237,7 @@ feeds_closed takes none old new e settles at ended =
 pub feeds_cut : WholeTakes → (old new : Talk) → old.state ≡ states.Reading → Settles new of_end [] → old.begins ≢ old.read →
     new.state ≡ states.Done (Ok (record { frames = old.frames; end = ends.Cut old.begins; short = old.short })) → Feeds old told.EndOfInput new
 feeds_cut takes old new e settles other ended =
-    feeds_plain old new told.EndOfInput states.Reading of_end e refl refl settles refl refl
+    feeds_plain old new told.EndOfInput states.Reading of_end e refl refl refl (none_stays old new states.Reading told.EndOfInput e (λ n x. x)) settles refl refl
     (done_less old new told.EndOfInput states.Reading (Ok (record { frames = old.frames; end = ends.Cut old.begins; short = old.short })) e ended
     (λ o. reading_some_work (bytes_left old))) (λ own w bytes steps written made st fits made_is.
     let x = in_state_of old states.Reading own w bytes steps written e st in
@@ -289,8 +292,8 @@ writing_some talk out e some =
 
 pub feeds_turn : (old mid new : Talk) (run : Run) (answer : Answer) (t : Turn) → old.state ≡ states.Running run → Moves run answer old.closes t → Rests old mid →
     Settles new of_nothing (turn_tokens t) → GoesOn mid t new → cause_of answer ≡ of_nothing → bytes_in answer ≡ [] →
-    ((w : Wanted) → taken_of answer w ≡ []) → TurnsTo mid t new → Feeds old answer new
-feeds_turn old mid new run answer t e moves rests settles goes cause_is no_piece no_write turns = record {
+    ((w : Wanted) → taken_of answer w ≡ []) → TurnsTo mid t new → TurnWrites t new → Feeds old answer new
+feeds_turn old mid new run answer t e moves rests settles goes cause_is no_piece no_write turns writes = record {
   fresh = settles.fresh;
   blames = settles.blames ∙ sym cause_is ∙ ap (λ (c : Cause). cause_after c answer) (sym (blamed_in old (states.Running run) e));
   keeps = (
@@ -305,6 +308,7 @@ feeds_turn old mid new run answer t e moves rests settles goes cause_is no_piece
       (subst (λ (b : List ℕ). StandsNow new own bytes (steps ++ made) b) (sym (ap (λ (p : List ℕ). written ++ p) (no_write w) ∙ append-nil written))
       (goes own bytes (steps ++ made) written turned));
   less = turn_less old mid new run answer t e rests moves.less turns;
+  few = few_turn old new run answer t e moves writes;
 }
 
 -- ---- an answer while a session is ended
@@ -337,6 +341,7 @@ feeds_undo old new fault u v answer e moves settles undone cause_is no_piece no_
       (λ more y. subst (λ (s : List Step). Finished own (Err fault) bytes s written) (sym (append_assoc steps made more)) (x.ends (made ++ more) y))
       (moves.leads own w made x.wants fits made_is))));
   less = undo_feeds old new fault u v answer e moves.less leaves;
+  few = few_plain old new answer (states.Undoing fault u) e refl (none_stays old new (states.Undoing fault u) answer e (λ n x. x));
 }
   where
     kept : (c : Cause) → c ≡ cause_after c answer
@@ -350,7 +355,7 @@ feeds_undo old new fault u v answer e moves settles undone cause_is no_piece no_
 pub feeds_broken : (old mid new : Talk) (out : Outgoing) → old.state ≡ states.Writing out → Rests old mid → Settles new of_write [] → BreaksOff mid out new → LeavesAtMost 4 new →
     Feeds old told.WriteFailed new
 feeds_broken old mid new out e rests settles breaks leaves =
-    feeds_plain old new told.WriteFailed (states.Writing out) of_write e refl refl settles refl refl (broken_less old new out e leaves) (λ own w bytes steps written made st fits made_is.
+    feeds_plain old new told.WriteFailed (states.Writing out) of_write e refl refl refl (other_stays old new told.WriteFailed (λ n is. cc)) settles refl refl (broken_less old new out e leaves) (λ own w bytes steps written made st fits made_is.
     let x = in_state_of old (states.Writing out) own w bytes steps written e st in
     no_bytes new own bytes (steps ++ made) (written ++ [])
     (nothing_made new own bytes steps made written made_is
@@ -359,7 +364,7 @@ feeds_broken old mid new out e rests settles breaks leaves =
 -- of `100 Continue`
 feeds_cut_off : (old new : Talk) (sent : ℕ) → old.state ≡ states.Continuing sent → Settles new of_write [] → new.state ≡ states.Done (Err faults.Write) → Feeds old told.WriteFailed new
 feeds_cut_off old new sent e settles failed =
-    feeds_plain old new told.WriteFailed (states.Continuing sent) of_write e refl refl settles refl refl
+    feeds_plain old new told.WriteFailed (states.Continuing sent) of_write e refl refl refl (none_stays old new (states.Continuing sent) told.WriteFailed e (λ n x. x)) settles refl refl
     (done_less old new told.WriteFailed (states.Continuing sent) (Err faults.Write) e failed (λ o. continuing_some_work (bytes_left old) sent)) (λ own w bytes steps written made st fits made_is.
     let x = in_state_of old (states.Continuing sent) own w bytes steps written e st in
     no_bytes new own bytes (steps ++ made) (written ++ [])
@@ -384,9 +389,9 @@ pub written_within : (talk : Talk) (out : Outgoing) (n : ℕ) → talk.state ≡
 written_within talk out n e x = least_of_two n PIECE (length out.bytes - out.sent) (awaits_at talk (states.Writing out) (told.Wrote n) e x)
 
 pub feeds_sent : (old mid new : Talk) (out : Outgoing) (n : ℕ) → old.state ≡ states.Writing out → n ≤ PIECE → Rests old mid → Settles new of_nothing [] → SendsBy mid out n new → SendsSome mid out n new →
-    Feeds old (told.Wrote n) new
-feeds_sent old mid new out n e few rests settles sends some =
-    feeds_plain old new (told.Wrote n) (states.Writing out) of_nothing e refl refl settles refl refl (sent_feeds old mid new out n e rests some) (λ own w bytes steps written made st fits made_is.
+    (out.sent + n < length out.bytes → writes_bytes new ≡ length out.bytes) → Feeds old (told.Wrote n) new
+feeds_sent old mid new out n e few rests settles sends some stays =
+    feeds_plain old new (told.Wrote n) (states.Writing out) of_nothing e refl refl refl (sent_stays old new out n e stays) settles refl refl (sent_feeds old mid new out n e rests some) (λ own w bytes steps written made st fits made_is.
     let x = in_state_of old (states.Writing out) own w bytes steps written e st in
     let taken : taken_of (told.Wrote n) w ≡ take n (drop out.sent out.bytes) =
     ap (λ (z : Wanted). taken_of (told.Wrote n) z) x.wants ∙ take-take n PIECE x.unsent few ∙ ap (λ (t : List ℕ). take n t) x.unsent_is in
@@ -398,7 +403,7 @@ feeds_sent old mid new out n e few rests settles sends some =
 pub feeds_continued : (old mid new : Talk) (sent n : ℕ) → old.state ≡ states.Continuing sent → Rests old mid → Settles new of_nothing [] → ContinuesBy mid sent n new → ContinuesSome mid sent n new →
     Feeds old (told.Wrote n) new
 feeds_continued old mid new sent n e rests settles goes some =
-    feeds_plain old new (told.Wrote n) (states.Continuing sent) of_nothing e refl refl settles refl refl (continued_feeds old mid new sent n e rests some) (λ own w bytes steps written made st fits made_is.
+    feeds_plain old new (told.Wrote n) (states.Continuing sent) of_nothing e refl refl refl (none_stays old new (states.Continuing sent) (told.Wrote n) e (λ m x. x)) settles refl refl (continued_feeds old mid new sent n e rests some) (λ own w bytes steps written made st fits made_is.
     let x = in_state_of old (states.Continuing sent) own w bytes steps written e st in
     let taken : taken_of (told.Wrote n) w ≡ take n (drop sent (continue_text true)) =
     ap (λ (z : Wanted). taken_of (told.Wrote n) z) x.in_state.1 in
@@ -413,7 +418,7 @@ pub feeds_begun : (old mid new : Talk) (t : Turn) → old.state ≡ states.Begin
     ((rest : List ℕ) (f : Request) → HoldsWhole old.inbox rest f → FirstTurn f t old.closes) → ((o : Outlook) → turn_work t o ≤ queue_work) → TurnsTo mid t new →
     Feeds old told.Begun new
 feeds_begun old mid new t e rests settles goes first few turns =
-    feeds_plain old new told.Begun states.Beginning of_nothing e refl refl settles refl refl (begun_less old mid new t e rests few turns) (λ own w bytes steps written made st fits made_is.
+    feeds_plain old new told.Begun states.Beginning of_nothing e refl refl refl (none_stays old new states.Beginning told.Begun e (λ n x. x)) settles refl refl (begun_less old mid new t e rests few turns) (λ own w bytes steps written made st fits made_is.
     let x = in_state_of old states.Beginning own w bytes steps written e st in
     let begun : Begun own made = subst (λ (z : Wanted). Made own told.Begun z made) x.in_state.3 made_is in
     no_bytes new own bytes (steps ++ made) (written ++ [])

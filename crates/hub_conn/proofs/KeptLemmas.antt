@@ -9,6 +9,7 @@ use Rattle.hub_conn.specs.declared.talk.State.{State}
 use Rattle.hub_conn.specs.declared.talk.State.TheVariants as states
 use Rattle.hub_conn.specs.declared.talk.Then.{Then}
 use Rattle.hub_conn.specs.declared.talk.Then.TheVariants as after
+use Rattle.hub_conn.proofs.PassLemmas.{relays_write_none}
 use Rattle.hub_conn.specs.Inbox.{keeps_bytes, most_read, HoldsSome, HoldsWhole}
 use Rattle.hub_conn.specs.Talk.{Stands, StandsIn, StandsForSome, IsWriting, IsKept, is_serving, is_serving_in, kept_bytes, writes_bytes}
 
@@ -40,4 +41,5 @@ is_kept talk read response count told writes few adds serves some =
     let sum : count ≡ read + response = adds (omega (arith, x.1, few)) in record {
       count_is = sum ∙ ap (λ (n : ℕ). n + response) x.0 ∙ ap (λ (n : ℕ). keeps_bytes talk.inbox + n) writes;
       within = omega (arith, sum, x.1, writes);
+      no_response = relays_write_none talk;
     }

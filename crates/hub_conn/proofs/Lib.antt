@@ -3,6 +3,7 @@ mod ScriptLemmas
 mod EndLemmas
 mod InboxLemmas
 mod StateLemmas
+mod PassLemmas
 mod WorkLemmas
 mod WriteLemmas
 mod GoLemmas
@@ -13,3 +14,4 @@ mod AwaitLemmas
 mod CallLemmas
 mod SpentLemmas
 mod KeptLemmas
+mod WantLemmas

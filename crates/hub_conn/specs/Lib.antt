@@ -4,3 +4,4 @@ pub mod Work
 pub mod Talk
 pub mod CallLaws
 pub mod SpentLaws
+pub mod WantLaws

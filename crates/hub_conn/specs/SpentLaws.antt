@@ -13,7 +13,7 @@ abbrev pub is_hub_spent : End → Bool
 is_hub_spent ends.HubSpent = true
 is_hub_spent end = false
 
--- What the result tells of it. A failed write and want of memory may come after the hub was found spent, or before.
+-- What the result tells of it. A failed write and out of memory may come after the hub was found spent, or before.
 abbrev pub TellsSpent : Result Served ConnFault → Bool → Type 0
 TellsSpent (Ok served) spent = spent ≡ is_hub_spent served.end
 TellsSpent (Err faults.Read) spent = spent ≡ false

@@ -1,10 +1,11 @@
 -- What a connection stands for, and what its calls do.
-use Rattle.std.specs.Prelude.{◌≡◌, ℕ, ◌+◌, ◌-◌, ◌<◌, ◌≤◌, min, Bool, true, false, List, [], ◌∷◌, ◌++◌, length, take, drop, Option, None, Result, Ok, Err, is_some}
+use Rattle.std.specs.Prelude.{◌≡◌, ℕ, ◌+◌, ◌-◌, ◌<◌, ◌≤◌, min, Bool, true, false, List, [], ◌∷◌, ◌++◌, length, take, drop, Option, None, Result, Ok, Err, IfOk, IsTrue, is_some}
 use Rattle.std.specs.Borrow.{Bor}
 use Rattle.http_frames.specs.declared.FrameFault.{FrameFault}
 use Rattle.http_frames.specs.declared.frames.TheConstants.{LIMITS}
 use Rattle.http_frames.specs.Frames as on
 use Rattle.http_frames.specs.Frames.{Request, IsWhole, IsRefused, closes, expects}
+use Rattle.grid_outside.specs.Exchanges.{is_within}
 use Rattle.node_client.specs.Held.{Token}
 use Rattle.node_client.specs.Steps.{Step, met_want}
 use Rattle.grid_types.specs.declared.capabilities.Cap.{Cap}
@@ -20,6 +21,8 @@ use Rattle.conn_script.specs.declared.wants.ConnFault.TheVariants as faults
 use Rattle.conn_script.specs.declared.wants.Served.{Served}
 use Rattle.conn_script.specs.declared.wants.TheConstants.{LIMIT, PIECE}
 use Rattle.conn_script.specs.declared.turn.Run.{Run}
+use Rattle.conn_script.specs.declared.turn.Run.TheVariants as run
+use Rattle.conn_script.specs.declared.turn.Turn.TheVariants as turns
 use Rattle.conn_script.specs.declared.turn.Turn.{Turn}
 use Rattle.conn_script.specs.declared.undoing.Undoing.{Undoing}
 use Rattle.conn_script.specs.Undo.{Undoes, EndsCreated, UndoWants, UndoFollows, UndoLeads, undo_awaits, undo_held, undo_tokens, undo_goes_on}
@@ -243,6 +246,22 @@ writes_bytes talk = state_writes talk.state
 unfoldable pub kept_bytes : Talk → ℕ
 kept_bytes talk = keeps_bytes talk.inbox + state_writes talk.state
 
+-- a command that is passed on to a node is under way
+abbrev pub run_relays : Run → Bool
+run_relays (run.Relaying r) = true
+run_relays r = false
+
+abbrev pub state_relays : State → Bool
+state_relays (states.Running run) = run_relays run
+state_relays state = false
+
+unfoldable pub relays : Talk → Bool
+relays talk = state_relays talk.state
+
+-- the most bytes of the response to such a command: a body and values at their limits, and 256 bytes for the rest of a head
+abbrev pub most_passed_on : ℕ
+most_passed_on = 16_843_008
+
 abbrev pub is_serving_in : State → Bool
 is_serving_in (states.Undoing fault u) = false
 is_serving_in (states.Done result) = false
@@ -256,6 +275,7 @@ is_serving talk = is_serving_in talk.state
 pub record IsKept (talk : Talk) (count : ℕ) : Type 0 where
   pub count_is : count ≡ kept_bytes talk
   pub within : count ≤ most_read + writes_bytes talk
+  pub no_response : relays talk ≡ true → writes_bytes talk ≡ 0
 
 -- ---- what is blamed
 
@@ -282,7 +302,7 @@ pub record IsNew (talk : Talk) : Type 0 where
   pub stands : (own : Option (List ℕ)) → Stands talk own (to_read PIECE) [] [] []
 
 -- what a want says: at the end how it ended, with no token left but where the hub is spent; before a read that no request
--- is refused and none asks to close; before what goes before a request, that want of memory there ends it so
+-- is refused and none asks to close; before what goes before a request, that out of memory there ends it so
 abbrev pub Says : Wanted → Option (List ℕ) → List ℕ → List Step → List ℕ → Type 0
 Says (over result) own bytes steps written = Finished own result bytes steps written
 Says (to_read most) own bytes steps written = (0 < most) × IsUnended own bytes steps written
@@ -319,6 +339,22 @@ abbrev pub KeepsTokens : Talk → Answer → Talk → Type 0
 KeepsTokens old answer new =
     (finds_spent answer ≡ false → tokens new ≡ told_tokens answer ++ tokens old) × (finds_spent answer ≡ true → tokens new ≡ [])
 
+-- an answer whose reply, where it has one, is no larger than a reply may be
+abbrev pub IsWithin : Answer → Type 0
+IsWithin (told.Node came) = IfOk came (λ reply. IsTrue (is_within reply))
+IsWithin answer = Unit {0}
+
+-- a response that is written isn't taken whole with so many more bytes
+abbrev pub HasLeft : State → ℕ → Type 0
+HasLeft (states.Writing out) n = out.sent + n < length out.bytes
+HasLeft state n = ⊥
+
+-- how large a response is that is written: to a command that is passed on at most so many bytes, and the same until it is taken whole
+pub record FeedsFew (old : Talk) (answer : Answer) (new : Talk) : Type 0 where
+  pub passes : (own : Option (List ℕ)) (w : Wanted) (bytes : List ℕ) (steps : List Step) (written : List ℕ) (made : List Step) →
+      Stands old own w bytes steps written → Fits answer w → Made own answer w made → relays old ≡ true → IsWithin answer → writes_bytes new ≤ most_passed_on
+  pub stays : (n : ℕ) → answer ≡ told.Wrote n → HasLeft old.state n → writes_bytes new ≡ writes_bytes old
+
 -- whatever it stood for, it stands for that with these bytes, steps and written bytes at the end, and has less left to do
 pub record Feeds (old : Talk) (answer : Answer) (new : Talk) : Type 0 where
   pub fresh : is_fresh new ≡ true
@@ -328,8 +364,16 @@ pub record Feeds (old : Talk) (answer : Answer) (new : Talk) : Type 0 where
       Stands old own w bytes steps written → Fits answer w → Made own answer w made →
       (next : Wanted) × Stands new own next (bytes ++ bytes_in answer) (steps ++ made) (written ++ taken_of answer w)
   pub less : FeedsLess old answer new
+  pub few : FeedsFew old answer new
 
 -- ---- what the steps inside keep
+
+-- the response that a turn begins to write, if any
+abbrev pub TurnWrites : Turn → Talk → Type 0
+TurnWrites (turns.Respond bytes) new = writes_bytes new ≡ length bytes
+TurnWrites (turns.RespondLast bytes short) new = writes_bytes new ≡ length bytes
+TurnWrites (turns.Created bytes session binding) new = writes_bytes new ≡ length bytes
+TurnWrites turn new = writes_bytes new ≡ 0
 
 -- a value that may be asked what it wants, with this cause and these tokens
 pub record Settles (new : Talk) (cause : Cause) (held : List Token) : Type 0 where

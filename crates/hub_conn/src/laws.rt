@@ -1,8 +1,9 @@
 //! What the definitions of a connection say.
 ghost use Rattle.hub_conn.specs.CallLaws.{CallLaws};
 ghost use Rattle.hub_conn.specs.SpentLaws.{SpentLaws};
+ghost use Rattle.hub_conn.specs.WantLaws.{WantLaws};
 
-use conn_script::scripts_find_spent_last;
+use conn_script::{scripts_find_spent_last, scripts_pause_behind_polls};
 use node_client::starts_stand_by_their_wants;
 
 /// A call that is wanted spends no token but its own, and brings what the hub asks of it; between scripts no token is held.
@@ -18,4 +19,12 @@ pub fn conversations_find_spent_last()
     ensures { SpentLaws }
 {
     scripts_find_spent_last();
+}
+
+/// A pause is wanted right behind a poll that was told to wait or found no memory, a request is queued while no token is held, and what
+/// is read stays within the limit of a connection.
+pub fn wants_come_in_order()
+    ensures { WantLaws }
+{
+    scripts_pause_behind_polls();
 }

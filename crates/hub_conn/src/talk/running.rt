@@ -8,7 +8,7 @@ ghost use Rattle.conn_script.specs.Undo.{undo_tokens, undo_goes_on};
 ghost use Rattle.conn_script.specs.declared.wants.Answer.TheVariants as told;
 ghost use Rattle.conn_script.specs.declared.undoing.Undoing.TheVariants as undo;
 ghost use Rattle.hub_conn.specs.declared.talk.State.TheVariants as states;
-ghost use Rattle.hub_conn.specs.Talk.{StandsForSome, awaited, Feeds, Settles, of_nothing, result_cause, IsAnswerable, Rests, FirstOf, GoesOn, HasUndone};
+ghost use Rattle.hub_conn.specs.Talk.{StandsForSome, awaited, Feeds, Settles, of_nothing, result_cause, IsAnswerable, Rests, FirstOf, GoesOn, HasUndone, TurnWrites};
 ghost use Rattle.hub_conn.specs.Inbox.{HoldsSomeWhole};
 
 use crate::talk::{Kept, State, Talk};
@@ -59,6 +59,7 @@ impl Talk {
         ensures goes { GoesOn self.old turn self.new }
         ensures settles { Settles self.new of_nothing (turn_tokens turn) }
         ensures less { TurnsTo self.old turn self.new }
+        ensures writes { TurnWrites turn self.new }
     {
         stays();
         match turn {

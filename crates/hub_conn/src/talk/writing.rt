@@ -1,10 +1,10 @@
 //! Responses that are written.
-ghost use Rattle.std.specs.Prelude.{◌+◌, ◌*◌, ◌≤◌, [], length, Err};
+ghost use Rattle.std.specs.Prelude.{◌≡◌, ◌+◌, ◌*◌, ◌<◌, ◌≤◌, [], length, Err};
 ghost use Rattle.hub_conn.specs.Work.{byte_work, bytes_left, then_work, LeavesAtMost, ContinuesSome, SendsSome};
 ghost use Rattle.conn_script.specs.Wanted.{IsAwaited};
 ghost use Rattle.conn_script.specs.declared.wants.Answer.TheVariants as told;
 ghost use Rattle.hub_conn.specs.Inbox.{HoldsSome};
-ghost use Rattle.hub_conn.specs.Talk.{StandsForSome, awaited, Feeds, Settles, of_nothing, of_write, result_cause, IsAnswerable, Responds, ThenAfter, EndsUndone, ContinuesBy, HoldsNext, SentAll, SendsBy, BreaksOff};
+ghost use Rattle.hub_conn.specs.Talk.{StandsForSome, awaited, Feeds, Settles, of_nothing, of_write, result_cause, IsAnswerable, Responds, ThenAfter, EndsUndone, ContinuesBy, HoldsNext, SentAll, SendsBy, BreaksOff, writes_bytes};
 
 use crate::talk::{CONTINUE, Kept, Outgoing, State, Talk, Then};
 use conn_script::{ConnFault, End, Undoing};
@@ -49,6 +49,7 @@ impl Talk {
         ensures goes { SendsBy self.old out count self.new }
         ensures settles { Settles self.new of_nothing [] }
         ensures less { SendsSome self.old out count self.new }
+        ensures stays { out.sent + count < length out.bytes → writes_bytes self.new ≡ length out.bytes }
     {
         let sent = out.sent + count;
         if sent < out.bytes.as_bytes().len() {
@@ -77,6 +78,7 @@ impl Talk {
         ensures responds { Responds self.old bytes is_last kept self.new }
         ensures settles { Settles self.new of_nothing [] }
         ensures less { LeavesAtMost (byte_work * bytes_left self.old) self.new }
+        ensures writes { writes_bytes self.new ≡ length bytes }
     {
         stays();
         let _length = bytes.as_bytes().len();
@@ -122,6 +124,7 @@ impl Talk {
         ensures ends { EndsUndone fault session binding self.new }
         ensures settles { Settles self.new (result_cause (Err fault)) [] }
         ensures less { LeavesAtMost 4 self.new }
+        ensures writes { writes_bytes self.new ≡ 0 }
     {
         self.state = State::Undoing(fault, Undoing::End(session, binding));
     }

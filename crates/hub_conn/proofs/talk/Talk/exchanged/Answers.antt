@@ -23,7 +23,7 @@ returns-in-Running c =
     feeds_turn c.args.self.now c.take_state.new.self c.turn.new.self c.in-Running.run' (told.Node c.args.came) c.exchanged-turn.result
     (sym c.take_state.ensures.taken ∙ c.in-Running.is)
     (subst (λ (b : Bool). Moves c.in-Running.run' (told.Node c.args.came) b c.exchanged-turn.result) c.take_state.ensures.rests.closing c.exchanged-turn.ensures)
-    c.take_state.ensures.rests c.turn.ensures.settles c.turn.ensures.goes refl refl (λ w. refl) c.turn.ensures.less
+    c.take_state.ensures.rests c.turn.ensures.settles c.turn.ensures.goes refl refl (λ w. refl) c.turn.ensures.less c.turn.ensures.writes
 
 pub returns-in-Undoing : goal.returns-in-Undoing
 returns-in-Undoing c =

@@ -23,7 +23,7 @@ returns c =
     feeds_turn c.args.self.now c.take_state.new.self c.turn.new.self c.in-Running.run' told.Paused c.paused-turn.result
     (sym c.take_state.ensures.taken ∙ c.in-Running.is)
     (subst (λ (b : Bool). Moves c.in-Running.run' told.Paused b c.paused-turn.result) c.take_state.ensures.rests.closing c.paused-turn.ensures)
-    c.take_state.ensures.rests c.turn.ensures.settles c.turn.ensures.goes refl refl (λ w. refl) c.turn.ensures.less
+    c.take_state.ensures.rests c.turn.ensures.settles c.turn.ensures.goes refl refl (λ w. refl) c.turn.ensures.less c.turn.ensures.writes
 
 pub unreachable-requires : goal.unreachable-requires
 unreachable-requires c =

@@ -2,6 +2,7 @@ use Rattle.std.proofs.Common.{arith, refl, []}
 use Rattle.http_frames.specs.declared.frames.TheConstants.{LIMITS}
 use Rattle.hub_conn.specs.declared.talk.State.TheVariants as states
 use Rattle.hub_conn.specs.Talk.{of_nothing}
+use Rattle.hub_conn.proofs.PassLemmas.{writes_in}
 use Rattle.hub_conn.proofs.WriteLemmas.{responds}
 use Rattle.hub_conn.proofs.StateLemmas.{settles_in}
 use Rattle.std.proofs.Common.{ap, length}
@@ -36,3 +37,6 @@ returns-clause-less c =
     let l = c.next-left.ensures a.0 a.1 a.2 in
     responded_leaves c.args.self.now _ c.args.bytes c.next_after-then.result c.args.kept c.next-left.result (length a.0) refl refl refl a.4
     (omega (arith, l.3, c.stays.ensures.some LIMITS a.0 a.1.0 a.1.1 l.0 l.1)) (omega (arith, ap length c.as_bytes-length.ensures))
+
+pub returns-clause-writes : goal.returns-clause-writes
+returns-clause-writes c = writes_in _ (states.Writing (record { bytes = c.args.bytes; sent = 0; then = c.next_after-then.result; kept = c.args.kept })) refl

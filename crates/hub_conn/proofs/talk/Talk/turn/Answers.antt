@@ -8,7 +8,8 @@ use Rattle.conn_script.specs.Responses.{created, hub_spent, bytes_of}
 use Rattle.conn_script.specs.Script.{behind_all}
 use Rattle.conn_script.specs.Moving.{turn_is_fresh, turn_tokens}
 use Rattle.hub_conn.specs.declared.talk.State.TheVariants as states
-use Rattle.hub_conn.specs.Talk.{Settles, IsTurned, of_nothing}
+use Rattle.hub_conn.specs.Talk.{Settles, IsTurned, TurnWrites, of_nothing}
+use Rattle.hub_conn.proofs.PassLemmas.{writes_in, go_writes}
 use Rattle.hub_conn.proofs.GoLemmas.{goes_on, complete_of, short_none, short_told, broke, broke_now}
 use Rattle.hub_conn.proofs.StateLemmas.{settles_in, done_stands, done_settles}
 use Rattle.hub_conn.proofs.WorkLemmas.{goes_less, responds_less, undo_less, done_leaves}
@@ -112,3 +113,24 @@ returns-in-Undo-clause-less c = undo_less c.args.self.now c.undo.new.self c.args
 
 pub returns-in-Lacks-clause-less : goal.returns-in-Lacks-clause-less
 returns-in-Lacks-clause-less c = undo_less c.args.self.now c.fail.new.self c.args.turn (done_leaves 4 c.fail.new.self (Err faults.Memory) c.fail.ensures)
+
+pub returns-in-Go-clause-writes : goal.returns-in-Go-clause-writes
+returns-in-Go-clause-writes c = go_writes _ c.args.turn c.in-Go.run' c.in-Go.short c.in-Go.is refl
+
+pub returns-in-Respond-clause-writes : goal.returns-in-Respond-clause-writes
+returns-in-Respond-clause-writes c = subst (λ (t : Turn). TurnWrites t c.respond.new.self) (sym c.in-Respond.is) c.respond.ensures.writes
+
+pub returns-in-RespondLast-clause-writes : goal.returns-in-RespondLast-clause-writes
+returns-in-RespondLast-clause-writes c =
+    subst (λ (t : Turn). TurnWrites t c.respond-in-RespondLast.new.self) (sym c.in-RespondLast.is) c.respond-in-RespondLast.ensures.writes
+
+pub returns-in-Created-clause-writes : goal.returns-in-Created-clause-writes
+returns-in-Created-clause-writes c =
+    subst (λ (t : Turn). TurnWrites t c.respond-in-Created.new.self) (sym c.in-Created.is) c.respond-in-Created.ensures.writes
+
+pub returns-in-Undo-clause-writes : goal.returns-in-Undo-clause-writes
+returns-in-Undo-clause-writes c = subst (λ (t : Turn). TurnWrites t c.undo.new.self) (sym c.in-Undo.is) c.undo.ensures.writes
+
+pub returns-in-Lacks-clause-writes : goal.returns-in-Lacks-clause-writes
+returns-in-Lacks-clause-writes c =
+    subst (λ (t : Turn). TurnWrites t c.fail.new.self) (sym c.in-Lacks.is) (writes_in c.fail.new.self (states.Done (Err faults.Memory)) c.fail.ensures)

@@ -3,6 +3,7 @@ use Rattle.std.specs.Prelude.{Err}
 use Rattle.conn_script.specs.declared.undoing.Undoing.TheVariants as undo
 use Rattle.hub_conn.specs.declared.talk.State.TheVariants as states
 use Rattle.hub_conn.specs.Talk.{result_cause}
+use Rattle.hub_conn.proofs.PassLemmas.{writes_in}
 use Rattle.hub_conn.proofs.GoLemmas.{undoing_stands}
 use Rattle.hub_conn.proofs.StateLemmas.{settles_in}
 use Rattle.std.proofs.Common.{arith}
@@ -18,3 +19,6 @@ returns-clause-settles c =
 
 pub returns-clause-less : goal.returns-clause-less
 returns-clause-less c = leaves_in 4 _ (states.Undoing c.args.fault (undo.End c.args.session c.args.binding)) refl (λ o. omega arith)
+
+pub returns-clause-writes : goal.returns-clause-writes
+returns-clause-writes c = writes_in _ (states.Undoing c.args.fault (undo.End c.args.session c.args.binding)) refl

@@ -47,4 +47,4 @@ pub returns-in-Writing : goal.returns-in-Writing
 returns-in-Writing c =
     feeds_sent c.args.self.now c.take_state.new.self c.sent_by.new.self c.in-Writing.out c.args.count (sym c.take_state.ensures.taken ∙ c.in-Writing.is)
     (written_within c.args.self.now c.in-Writing.out c.args.count (sym c.take_state.ensures.taken ∙ c.in-Writing.is) c.requires.awaits).0
-    c.take_state.ensures.rests c.sent_by.ensures.settles c.sent_by.ensures.goes c.sent_by.ensures.less
+    c.take_state.ensures.rests c.sent_by.ensures.settles c.sent_by.ensures.goes c.sent_by.ensures.less c.sent_by.ensures.stays
