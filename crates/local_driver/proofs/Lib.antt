@@ -2,3 +2,8 @@ mod LiveLemmas
 mod WayLemmas
 mod BeginLemmas
 mod CallLemmas
+mod TokenLemmas
+mod LessLemmas
+mod OnwardLemmas
+mod TurnLemmas
+mod ServedLemmas

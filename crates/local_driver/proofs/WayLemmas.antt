@@ -4,7 +4,7 @@ use Rattle.std.specs.Prelude.{Option, None, Some, IfSome}
 use Rattle.grid_types.specs.declared.config.HubConfig.{HubConfig}
 use Rattle.grid_types.specs.declared.entry.Entry.{Entry}
 use Rattle.grid_types.specs.Calls.{Call, Reply}
-use Rattle.grid_outside.specs.Told.{Pauses}
+use Rattle.grid_outside.specs.Told.{Pauses, later_by, paused}
 use Rattle.grid_outside.specs.declared.exchange.Ask.{Ask}
 use Rattle.grid_outside.specs.Exchanges.{Came}
 use Rattle.hub_core.specs.Answers.{Answers}
@@ -111,3 +111,9 @@ module _ {N : Type 0} (gives : N → List ℕ → Ask → Came → N → Type 0)
       told_none : (o : Option Pauses) → IfSome o (λ p. (o ≡ Some p) × (m ≡ m))
       told_none None = tt
       told_none (Some p) = (refl, refl)
+
+  -- one pause
+  pub went_pause : (h : HubView) (n : N) (ms m m' : ℕ) (pauses pauses' : Option Pauses) → later_by m ms ≤ m' →
+      IfSome pauses (λ p. (pauses' ≡ Some (paused ms p)) × (m' ≡ later_by m ms)) → Went gives (world_of h n m pauses) (Paused ms ∷ []) (world_of h n m' pauses')
+  unfolding Answered Exchanges Timed Still pauses_after
+  went_pause h n ms m m' pauses pauses' long told = record { config = refl; answered = refl; asked = refl; timed = (m', long, omega arith); told = told }

@@ -1,13 +1,19 @@
 -- What came of a call that a connection hands out, on the hub of one thread.
-use Rattle.std.specs.Prelude.{◌≡◌, ℕ, Bool, true, false, Option}
+use Rattle.std.specs.Prelude.{◌≡◌, ℕ, Bool, true, false, List, Option}
+use Rattle.grid_types.specs.declared.entry.Entry.{Entry}
 use Rattle.grid_types.specs.declared.names.SlotId.{SlotId}
 use Rattle.grid_types.specs.Tokens.{ticket_of, reservation_of, is_good_ticket, is_good_reservation, is_good_closing}
 use Rattle.grid_types.specs.Calls.{Call, Reply}
 use Rattle.hub_core.specs.HubView.{HubView, past}
-use Rattle.hub_core.specs.Serves.{GivesGood, hands_ticket, hands_reservation, hands_closing}
+use Rattle.hub_core.specs.Serves.{GivesGood, MayCall, hands_ticket, hands_reservation, hands_closing}
 use Rattle.conn_script.specs.declared.wants.HubAnswer.{HubAnswer}
 use Rattle.conn_script.specs.Wanted.{FitsKind, Keeps, kind_of, reply_of, is_spent}
 use Rattle.local_driver.specs.World.{AnswersAt}
+
+-- what the hub asks of a call that a connection hands out; choices are always of the size that is asked
+abbrev pub MayMake : List Entry → Call → Type 0
+MayMake H (Call.enqueue choices) = Unit {0}
+MayMake H call = MayCall H 0 call
 
 -- room was made, or there is none
 abbrev pub HasRoom : Bool → HubView → HubView → Type 0
@@ -26,7 +32,7 @@ pub record ServesOn (old : HubView) (call : Call) (at : ℕ) (reply : Option Rep
       (is_good_reservation (past new) 0 r s ≡ true) × (reservation_of (past new) r s ≡ reservation_of (past old) r s)
   pub keeps_closings : (s : SlotId) → is_good_closing (past old) 0 s ≡ true → hands_closing call s ≡ false → is_good_closing (past new) 0 s ≡ true
 
--- The answer is one to such a call, and what was handed in comes back for want of memory. This hub is never spent.
+-- The answer is one to such a call, and what was handed in comes back where it is out of memory. This hub is never spent.
 pub record Made (old : HubView) (call : Call) (at : ℕ) (answer : HubAnswer) (new : HubView) : Type 0 where
   pub fits : FitsKind answer (kind_of call)
   pub keeps : Keeps answer call

@@ -21,7 +21,7 @@ enum Idle {
     Ended,
     /// There is none.
     Over,
-    /// Want of memory, for the call or for the request to the node.
+    /// Out of memory, for the call or for the request to the node.
     Lacks,
 }
 
@@ -35,7 +35,7 @@ fn was_sent(came: &Result<Reply, ExchangeFault>) -> bool
     }
 }
 
-/// Asks the node of the closing to end its session, where that is called for. False is want of memory: it was not asked.
+/// Asks the node of the closing to end its session, where that is called for. False is out of memory: it was not asked.
 fn ask_to_end<N: NodeLink>(alloc: Global, closing: &Closing, nodes: &mut N) -> bool
     ensures { AsksOnce N.gives closing.now nodes.old result nodes.new }
 {
@@ -47,7 +47,7 @@ fn ask_to_end<N: NodeLink>(alloc: Global, closing: &Closing, nodes: &mut N) -> b
     true
 }
 
-/// Has the session of the closing ended at its node, and frees its slot. False is want of memory: the node was not asked.
+/// Has the session of the closing ended at its node, and frees its slot. False is out of memory: the node was not asked.
 fn finish<N: NodeLink, C: Clock>(
     alloc: Global,
     hub: &mut LocalHub,
@@ -95,7 +95,7 @@ fn ended(sent: bool) -> Idle
     if sent { Idle::Ended } else { Idle::Lacks }
 }
 
-/// Ends the idle sessions one after the other. False is want of memory.
+/// Ends the idle sessions one after the other. False is out of memory.
 fn end_all_idle<N: NodeLink, C: Clock>(
     alloc: Global,
     hub: &mut LocalHub,
@@ -116,7 +116,7 @@ fn end_all_idle<N: NodeLink, C: Clock>(
 }
 
 /// Does what goes before a request in a program with nodes of its own: these give a sign of life, the hub sweeps, and idle
-/// sessions are ended. Err is want of memory.
+/// sessions are ended. Err: out of memory.
 pub fn begin<N: NodeLink, C: Clock>(
     alloc: Global,
     hub: &mut LocalHub,
@@ -141,7 +141,7 @@ pub fn begin<N: NodeLink, C: Clock>(
     sweep_and_end(alloc, hub, nodes, clock)
 }
 
-/// Sweeps, and ends the idle sessions. Err is want of memory.
+/// Sweeps, and ends the idle sessions. Err: out of memory.
 fn sweep_and_end<N: NodeLink, C: Clock>(
     alloc: Global,
     hub: &mut LocalHub,

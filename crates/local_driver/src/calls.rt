@@ -2,8 +2,7 @@
 ghost use Rattle.std.specs.Prelude.{◌≡◌, true};
 ghost use Rattle.conn_script.specs.Wanted.{call_of};
 ghost use Rattle.hub_core.specs.HubView.{past};
-ghost use Rattle.hub_core.specs.Serves.{MayCall};
-ghost use Rattle.local_driver.specs.Calls.{HasRoom, Made};
+ghost use Rattle.local_driver.specs.Calls.{HasRoom, Made, MayMake};
 
 mod nodes;
 mod requests;
@@ -18,7 +17,7 @@ use sessions::{end, freed, lookup, touch, view};
 
 /// Makes the call at the moment. Where there is no room for its entries, it isn't made, and the answer says so.
 pub fn make(hub: &mut LocalHub, call: HubCall, at: Moment) -> HubAnswer
-    requires { MayCall (past hub.old) 0 (call_of call) }
+    requires { MayMake (past hub.old) (call_of call) }
     ensures { Made hub.old (call_of call) at.0 result hub.new }
 {
     match call {

@@ -3,6 +3,9 @@
 
 mod before;
 mod calls;
+mod serving;
 
 pub use before::begin;
 pub use calls::make;
+pub use hub_conn::{ConnFault, End, Served};
+pub use serving::serve_local;

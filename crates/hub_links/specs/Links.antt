@@ -1,0 +1,47 @@
+-- What a link tells, and how that goes on.
+use Rattle.std.specs.Prelude.{ℕ, ◌<◌, ◌≤◌, List, length, Option}
+use Rattle.grid_outside.specs.Counts.{Rose}
+use Rattle.grid_outside.specs.Told.{Gains}
+use Rattle.conn_script.specs.declared.wants.Answer.{Answer}
+use Rattle.conn_script.specs.declared.wants.Answer.TheVariants as told
+use Rattle.conn_script.specs.Wanted.{Awaited, IsAwaited}
+use Rattle.hub_conn.specs.Talk.{Cause, of_read, of_write, of_end, of_nothing, cause_of}
+
+-- what a link tells: the bytes that it gave and those that it took, where it tells them, and its counts
+pub record LinkView : Type 0 where
+  pub given : Option (List ℕ)
+  pub taken : Option (List ℕ)
+  pub read_faults : ℕ
+  pub write_faults : ℕ
+  pub ends : ℕ
+
+abbrev pub link_of : Option (List ℕ) → Option (List ℕ) → ℕ → ℕ → ℕ → LinkView
+link_of given taken read_faults write_faults ends =
+    record { given = given; taken = taken; read_faults = read_faults; write_faults = write_faults; ends = ends }
+
+-- it gave just these bytes and took just those, where it tells them, and no count fell
+pub record Moved (old : LinkView) (bytes written : List ℕ) (new : LinkView) : Type 0 where
+  pub given : Gains old.given new.given bytes
+  pub taken : Gains old.taken new.taken written
+  pub read_faults : old.read_faults ≤ new.read_faults
+  pub write_faults : old.write_faults ≤ new.write_faults
+  pub ends : old.ends ≤ new.ends
+
+-- the count of what is blamed rose
+abbrev pub RoseFor : Cause → LinkView → LinkView → Type 0
+RoseFor of_read old new = Rose old.read_faults new.read_faults
+RoseFor of_write old new = Rose old.write_faults new.write_faults
+RoseFor of_end old new = Rose old.ends new.ends
+RoseFor of_nothing old new = Unit {0}
+
+-- what came of a read or of a write, with these bytes given or taken
+pub record DoesLink (answer : Answer) (awaited : Awaited) (old : LinkView) (bytes written : List ℕ) (new : LinkView) : Type 0 where
+  pub fits : IsAwaited answer awaited
+  pub moved : Moved old bytes written new
+  pub rose : RoseFor (cause_of answer) old new
+
+-- some bytes came or were taken, where any did
+abbrev pub MovesSome : Answer → Type 0
+MovesSome (told.Bytes bytes) = 0 < length bytes.now
+MovesSome (told.Wrote n) = 0 < n
+MovesSome answer = Unit {0}

@@ -1,0 +1,188 @@
+//! The driver: it asks the connection what it wants, does that, and hands in what came of it.
+ghost use Rattle.std.specs.Prelude.{◌≡◌, ◌≢◌, ℕ, ◌<◌, true, length, Err, IfOk};
+ghost use Rattle.grid_types.specs.Legal.{legal};
+ghost use Rattle.grid_outside.specs.Counts.{Rose};
+ghost use Rattle.start_laws.specs.Laws.{CallsKeepNewest, DeadlinesAreMoments, PollsAreEarly, StartsRunOut};
+ghost use Rattle.hub_core.specs.HubView.{past};
+ghost use Rattle.conn_script.specs.declared.wants.ConnFault.{ConnFault};
+ghost use Rattle.conn_script.specs.declared.wants.End.TheVariants as ends;
+ghost use Rattle.hub_conn.specs.CallLaws.{CallLaws};
+ghost use Rattle.hub_conn.specs.Talk.{end_cause};
+ghost use Rattle.hub_conn.specs.WantLaws.{WantLaws};
+ghost use Rattle.hub_conn.specs.Work.{work};
+ghost use Rattle.hub_links.specs.Links.{RoseFor, link_of};
+ghost use Rattle.local_driver.specs.World.{world_of};
+ghost use Rattle.local_driver.specs.Outside.{Outside, outlook_of, outside_of};
+ghost use Rattle.local_driver.specs.Serving.{EndedSo, FallsTo, HasServed, Serving, Turned};
+
+use crate::before::begin;
+use crate::calls::make;
+use grid_outside::{Clock, Link, NodeLink};
+use grid_types::NodeNo;
+use hub_conn::{
+    Answer, ConnFault, Served, Talk, Want, calls_are_rightful, conversations_find_spent_last,
+    wants_come_in_order,
+};
+use hub_core::LocalHub;
+use hub_links::{read_piece, write_some};
+use start_laws::{calls_keep_the_newest_request, polls_are_early, starts_run_out};
+use std::alloc::Global;
+
+/// How many bytes are read at once, at most.
+const BUFFER: usize = 65_536;
+
+/// The history of a hub is legal.
+fn is_legal(hub: &LocalHub)
+    ensures { legal hub.now.config (past hub.now) ≡ true }
+{
+    let _journal = hub.journal();
+}
+
+/// The laws by which each turn of the driver leads on, and all turns to an end.
+fn laws_hold()
+    ensures calls { CallLaws }
+    ensures wants { WantLaws }
+    ensures starts { StartsRunOut }
+    ensures early { PollsAreEarly }
+    ensures moments { DeadlinesAreMoments }
+    ensures newest { CallsKeepNewest }
+{
+    calls_are_rightful();
+    wants_come_in_order();
+    starts_run_out();
+    polls_are_early();
+    calls_keep_the_newest_request();
+}
+
+/// Does what the connection wants. Some is how it ended.
+fn turn<L: Link, N: NodeLink, C: Clock>(
+    alloc: Global,
+    hub: &mut LocalHub,
+    own: &[NodeNo],
+    talk: &mut Talk,
+    buffer: &mut [u8],
+    link: &mut L,
+    nodes: &mut N,
+    clock: &mut C,
+) -> Option<Result<Served, ConnFault>>
+    requires room { 0 < length buffer.old }
+    requires serving { (first : Outside N) × Serving N.gives own.now first talk.old
+        (outside_of (world_of hub.old nodes.old (C.moment clock.old) (C.pauses clock.old))
+        (link_of (L.given link.old) (L.taken link.old) (L.read_faults link.old) (L.write_faults link.old) (L.ends link.old))) }
+    ensures turned { Turned N.gives own.now talk.old
+        (outside_of (world_of hub.old nodes.old (C.moment clock.old) (C.pauses clock.old))
+        (link_of (L.given link.old) (L.taken link.old) (L.read_faults link.old) (L.write_faults link.old) (L.ends link.old)))
+        result talk.new
+        (outside_of (world_of hub.new nodes.new (C.moment clock.new) (C.pauses clock.new))
+        (link_of (L.given link.new) (L.taken link.new) (L.read_faults link.new) (L.write_faults link.new) (L.ends link.new))) }
+    ensures less { FallsTo result
+        (work talk.old (outlook_of (world_of hub.old nodes.old (C.moment clock.old) (C.pauses clock.old))))
+        (work talk.new (outlook_of (world_of hub.new nodes.new (C.moment clock.new) (C.pauses clock.new)))) }
+    ensures same { L.Same link.old link.new }
+{
+    laws_hold();
+    is_legal(hub);
+    match talk.next() {
+        Want::Read(most) => {
+            let answer = read_piece(link, most, buffer);
+            talk.feed(answer);
+            None
+        }
+        Want::Write(bytes) => {
+            let answer = write_some(link, bytes);
+            talk.feed(answer);
+            None
+        }
+        Want::Begin => {
+            if begin(alloc, hub, own, nodes, clock).is_err() {
+                return Some(Err(ConnFault::Memory));
+            }
+            talk.feed(Answer::Begun);
+            None
+        }
+        Want::Hub => {
+            let call = talk.hub_call();
+            let at = clock.now();
+            let answer = make(hub, call, at);
+            is_legal(hub);
+            talk.feed(Answer::Hub(answer));
+            None
+        }
+        Want::Node(address, request) => {
+            let came = nodes.exchange(alloc, &address, &request);
+            talk.feed(Answer::Node(came));
+            None
+        }
+        Want::Pause(ms) => {
+            let _now = clock.pause(ms);
+            talk.feed(Answer::Paused);
+            None
+        }
+        Want::Done(result) => Some(result),
+    }
+}
+
+/// Serves the connection turn after turn, until it has ended.
+fn serve_to_end<L: Link, N: NodeLink, C: Clock>(
+    alloc: Global,
+    hub: &mut LocalHub,
+    own: &[NodeNo],
+    link: &mut L,
+    nodes: &mut N,
+    clock: &mut C,
+) -> Result<Served, ConnFault>
+    ensures ended { EndedSo N.gives own.now
+        (outside_of (world_of hub.old nodes.old (C.moment clock.old) (C.pauses clock.old))
+        (link_of (L.given link.old) (L.taken link.old) (L.read_faults link.old) (L.write_faults link.old) (L.ends link.old)))
+        result
+        (outside_of (world_of hub.new nodes.new (C.moment clock.new) (C.pauses clock.new))
+        (link_of (L.given link.new) (L.taken link.new) (L.read_faults link.new) (L.write_faults link.new) (L.ends link.new))) }
+    ensures same { L.Same link.old link.new }
+{
+    let mut talk = Talk::new(alloc);
+    let mut buffer = [0; BUFFER];
+    'turns: loop {
+        let ended = turn(alloc, hub, own, &mut talk, &mut buffer, link, nodes, clock);
+        if let Some(result) = ended {
+            return result;
+        }
+    }
+}
+
+/// Serves one connection to its end by a hub of one thread. Before each request the nodes `own`, which stand in the caller's program,
+/// give a sign of life, the hub sweeps, and sessions that were idle for too long are ended.
+///
+/// What was read, all calls of the hub, all that the nodes were asked, all pauses and what was written are one conversation. Its
+/// responses are those to its requests, in order, each by answers of the hub at points of its history, which gained just the entries of
+/// these calls.
+///
+/// It always ends, as far as the calls of the link, the nodes and the clock do. Err tells that a read or a write failed, or that memory
+/// was wanted where no response tells it. A session that was created for a response that can't be written is ended.
+pub fn serve_local<L: Link, N: NodeLink, C: Clock>(
+    alloc: Global,
+    hub: &mut LocalHub,
+    own: &[NodeNo],
+    link: &mut L,
+    nodes: &mut N,
+    clock: &mut C,
+) -> Result<Served, ConnFault>
+    ensures served { HasServed N.gives own.now
+        (outside_of (world_of hub.old nodes.old (C.moment clock.old) (C.pauses clock.old))
+        (link_of (L.given link.old) (L.taken link.old) (L.read_faults link.old) (L.write_faults link.old) (L.ends link.old)))
+        result
+        (outside_of (world_of hub.new nodes.new (C.moment clock.new) (C.pauses clock.new))
+        (link_of (L.given link.new) (L.taken link.new) (L.read_faults link.new) (L.write_faults link.new) (L.ends link.new))) }
+    ensures legal { legal hub.new.config (past hub.new) ≡ true }
+    ensures read { result ≡ Err ConnFault.Read → Rose (L.read_faults link.old) (L.read_faults link.new) }
+    ensures write { result ≡ Err ConnFault.Write → Rose (L.write_faults link.old) (L.write_faults link.new) }
+    ensures ended { IfOk result (λ served. RoseFor (end_cause served.end)
+        (link_of (L.given link.old) (L.taken link.old) (L.read_faults link.old) (L.write_faults link.old) (L.ends link.old))
+        (link_of (L.given link.new) (L.taken link.new) (L.read_faults link.new) (L.write_faults link.new) (L.ends link.new))) }
+    ensures unspent { IfOk result (λ served. served.end ≢ ends.HubSpent) }
+    ensures same { L.Same link.old link.new }
+{
+    let result = serve_to_end(alloc, hub, own, link, nodes, clock);
+    conversations_find_spent_last();
+    is_legal(hub);
+    result
+}

@@ -1,0 +1,5 @@
+mod CountLemmas
+mod StartLemmas
+mod PollLemmas
+mod NewestLemmas
+mod ClockLemmas

@@ -1,0 +1,14 @@
+use Rattle.start_laws.proofs.StartLemmas.{bind, chosen_untried, fail, few, freed, queues, registered, yours}
+use Rattle.start_laws.proofs.laws.starts_run_out.Goals as goal
+
+pub returns : goal.returns
+returns c = record {
+  untried = chosen_untried;
+  yours = yours;
+  bind = bind;
+  fail = fail;
+  freed = freed;
+  queues = queues;
+  registered = registered;
+  few = few;
+}
