@@ -1,0 +1,5 @@
+pub mod NameLemmas
+pub mod CutTextLemmas
+pub mod EntryLemmas
+pub mod OutLemmas
+pub mod HeadLemmas
