@@ -1,0 +1,13 @@
+mod TurnLemmas
+mod WayLemmas
+mod ListLemmas
+mod FreshLemmas
+mod HeldLemmas
+mod CallLemmas
+mod LoopLemmas
+mod JournalLemmas
+mod CrewLemmas
+mod StreamLemmas
+mod CountLemmas
+mod ViewLemmas
+mod DrawLemmas

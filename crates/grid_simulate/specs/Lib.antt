@@ -1,0 +1,16 @@
+pub mod Draws
+pub mod World
+pub mod Crew
+pub mod Starts
+pub mod Actions
+pub mod Simulates
+pub mod Counts
+pub mod Kinds
+pub mod Running
+pub mod Texts
+pub mod Writing
+pub mod Looks
+pub mod Held
+pub mod Joining
+pub mod Settling
+pub mod Carrying

@@ -1,0 +1,74 @@
+// A simulation's summary, written to an output.
+ghost use Rattle.std.specs.Prelude.{◌≡◌, ◌⊎◌, ◌≤◌, IfOk, OnOk, OnErr};
+ghost use Rattle.grid_outside.specs.Counts.{Rose, HasCause};
+ghost use Rattle.grid_outside.specs.Told.{Gains};
+ghost use Rattle.grid_simulate.specs.Writing.{StopsWithin, IsText, WroteAll, BrokeOff};
+
+use crate::text::summary_text;
+use crate::top::simulate;
+use grid_outside::{Failed, Sink};
+use grid_types::{NoMemory, Text};
+use std::alloc::Global;
+
+/// The whole summary was written.
+const DONE: u8 = 0;
+
+/// A write failed.
+const WRITE_FAILED: u8 = 4;
+
+/// Memory was wanted and there was none.
+const NO_MEMORY: u8 = 5;
+
+/// Writes all bytes, or up to the first write that fails.
+fn write_all<K: Sink>(output: &mut K, bytes: &[u8]) -> Result<(), Failed>
+    ensures ok { OnOk result (Gains (K.taken output.old) (K.taken output.new) bytes.now) }
+    ensures err { OnErr result (StopsWithin (K.taken output.old) (K.taken output.new) bytes.now) }
+    ensures cause { HasCause (K.faults output.old) (K.faults output.new) result }
+{
+    let mut done = 0;
+    'pieces: while done < bytes.len() {
+        match output.write(&bytes[done..]) {
+            Ok(count) => done += count,
+            Err(failed) => return Err(failed),
+        }
+    }
+    Ok(())
+}
+
+/// The text of the summary of a number's simulation.
+fn text_of(alloc: Global, number: u64) -> Result<Text, NoMemory>
+    ensures { IfOk result (λ text. IsText number text) }
+{
+    let simulated = simulate(alloc, number)?;
+    summary_text(alloc, number, &simulated.summary)
+}
+
+/// Writes a text: 0 where all of it was written, 4 where a write failed.
+fn write_text<K: Sink>(output: &mut K, text: &Text) -> u8
+    ensures statuses { (result ≡ 0) ⊎ (result ≡ 4) }
+    ensures whole { result ≡ 0 → Gains (K.taken output.old) (K.taken output.new) text.now }
+    ensures broken { result ≡ 4 → StopsWithin (K.taken output.old) (K.taken output.new) text.now }
+    ensures cause { result ≡ 4 → Rose (K.faults output.old) (K.faults output.new) }
+    ensures later { K.faults output.old ≤ K.faults output.new }
+{
+    match write_all(output, text.as_str().as_bytes()) {
+        Ok(()) => DONE,
+        Err(_) => WRITE_FAILED,
+    }
+}
+
+/// Makes the simulation of a number and writes its summary: the status of a program that does just that. It is 0
+/// exactly where the whole summary was written, 4 where a write failed, and 5 for want of memory.
+pub fn write_simulation<K: Sink>(alloc: Global, number: u64, output: &mut K) -> u8
+    ensures statuses { (result ≡ 0) ⊎ ((result ≡ 4) ⊎ (result ≡ 5)) }
+    ensures whole { result ≡ 0 → WroteAll number (K.taken output.old) (K.taken output.new) }
+    ensures broken { result ≡ 4 → BrokeOff number (K.taken output.old) (K.taken output.new) }
+    ensures cause { result ≡ 4 → Rose (K.faults output.old) (K.faults output.new) }
+    ensures nothing { result ≡ 5 → K.taken output.new ≡ K.taken output.old }
+    ensures later { K.faults output.old ≤ K.faults output.new }
+{
+    match text_of(alloc, number) {
+        Ok(text) => write_text(output, &text),
+        Err(NoMemory) => NO_MEMORY,
+    }
+}

@@ -1,0 +1,5 @@
+//! Trials of simulations.
+#![tactic(auto)]
+
+#[cfg(test)]
+mod simulations;
