@@ -1,3 +1,4 @@
+//! Where links come from: a port that is bound and accepted at.
 ghost use Rattle.std.specs.Prelude.{◌≡◌, ℕ, ◌≤◌, None, Result, IfOk};
 ghost use Rattle.grid_outside.specs.Counts.{Rose, HasCause};
 

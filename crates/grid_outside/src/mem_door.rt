@@ -1,5 +1,5 @@
-// A door in memory.
-ghost use Rattle.std.specs.Prelude.{◌≡◌, ℕ, ◌≤◌, List, [], ◌∷◌, ◌++◌, None, Option, Result, IfOk, OnOk, OnErr, IfErr};
+//! A door in memory.
+ghost use Rattle.std.specs.Prelude.{◌≡◌, ℕ, ◌-◌, ◌^◌, ◌≤◌, min, List, [], ◌∷◌, ◌++◌, None, Option, Result, IfOk, OnOk, OnErr, IfErr};
 ghost use Rattle.grid_outside.specs.Counts.{Rose, HasCause};
 
 use crate::door::Door;
@@ -38,7 +38,7 @@ impl MemDoor {
         }
     }
 
-    /// Puts a link last of those to hand out. Err is want of memory, and hands it back.
+    /// Puts a link last of those to hand out. Err: out of memory, which hands it back.
     pub fn push(&mut self, link: MemLink) -> Result<(), MemLink>
         ensures ok { OnOk result (to_hand_out self.new ≡ to_hand_out self.old ++ link ∷ []) }
         ensures err { OnErr result (to_hand_out self.new ≡ to_hand_out self.old) }
@@ -53,6 +53,8 @@ impl MemDoor {
 
 impl Door for MemDoor {
     ghost use Rattle.grid_outside.specs.MemDoors.{to_hand_out, HandsOut};
+    ghost use Rattle.grid_outside.specs.MemNodes.{to_give};
+    ghost use Rattle.grid_outside.specs.Memory.{clock_at};
 
     type L = MemLink;
 
@@ -95,11 +97,21 @@ impl Door for MemDoor {
         Ok(Some(self.links.remove(0)))
     }
 
-    fn nodes(&mut self) -> MemNodes {
+    fn nodes(&mut self) -> MemNodes
+        ensures faults { self.old.failing.faults ≤ self.new.failing.faults }
+        ensures ends { self.old.ends ≤ self.new.ends }
+        ensures links { to_hand_out self.new ≡ to_hand_out self.old }
+        ensures give { to_give result ≡ [] }
+    {
         MemNodes::new(self.alloc, Vec::new(self.alloc))
     }
 
-    fn clock(&mut self) -> MemClock {
+    fn clock(&mut self) -> MemClock
+        ensures faults { self.old.failing.faults ≤ self.new.failing.faults }
+        ensures ends { self.old.ends ≤ self.new.ends }
+        ensures links { to_hand_out self.new ≡ to_hand_out self.old }
+        ensures at { clock_at result ≡ min (2 ^ 62 - 1) self.old.at.0 }
+    {
         MemClock::new(self.at)
     }
 }

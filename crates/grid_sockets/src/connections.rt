@@ -1,4 +1,4 @@
-// Nodes over TCP.
+//! Nodes over TCP.
 ghost use Rattle.std.specs.Prelude.{◌≡◌, ℕ, ◌<◌, ◌≤◌, ◌+◌, IfOk, IsErrOf, IsTrue, length, vec_len};
 ghost use Rattle.grid_outside.specs.Counts.{Rose};
 ghost use Rattle.grid_outside.specs.Exchanges.{is_within};
@@ -27,6 +27,7 @@ pub struct TcpNodes<R: Net + Drop> {
 }
 
 impl<R: Net + Drop> TcpNodes<R> {
+    /// Connects by this runtime. Nothing is connected before the first exchange.
     pub fn new(runtime: R) -> Self
         ensures { result.faults ≡ 0 }
     {

@@ -1,5 +1,5 @@
-// A door over TCP.
-ghost use Rattle.std.specs.Prelude.{◌≡◌, ℕ, ◌≤◌, None, IfOk};
+//! A door over TCP.
+ghost use Rattle.std.specs.Prelude.{◌≡◌, ℕ, ◌≤◌, None, IfOk, OnOk, OnErr, IsSome};
 ghost use Rattle.grid_outside.specs.Counts.{Rose, HasCause};
 ghost use Rattle.grid_sockets.specs.Limits.{IsCounted};
 
@@ -31,6 +31,7 @@ pub struct TcpDoor<R: Net<Listener = TcpListener, Stream = TcpStream> + Drop> {
 }
 
 impl<R: Net<Listener = TcpListener, Stream = TcpStream> + Drop> TcpDoor<R> {
+    /// A door that is not bound yet. With a limit it closes after so many accepted links.
     pub fn new(runtime: R, limit: Option<u64>) -> Self
         ensures limit { result.left ≡ limit }
         ensures faults { result.faults ≡ 0 }
@@ -100,7 +101,12 @@ impl<R: Net<Listener = TcpListener, Stream = TcpStream> + time::Clock + Copy + S
 
     ghost ends = { λ d. d.ends };
 
-    fn bind(&mut self, port: u16) -> Result<(), Failed> {
+    fn bind(&mut self, port: u16) -> Result<(), Failed>
+        ensures cause { HasCause self.old.faults self.new.faults result }
+        ensures ends { self.old.ends ≤ self.new.ends }
+        ensures bound { OnOk result (IsSome self.new.listener) }
+        ensures limit { self.new.left ≡ self.old.left }
+    {
         match TcpListener::bind(&self.runtime, (Ipv4Addr::UNSPECIFIED, port)) {
             Ok(listener) => {
                 self.listener = Some(listener);
@@ -119,6 +125,7 @@ impl<R: Net<Listener = TcpListener, Stream = TcpStream> + time::Clock + Copy + S
         ensures ends { self.old.ends ≤ self.new.ends }
         // It closes exactly after its limit.
         ensures limit { IfOk result (IsCounted self.old.left self.new.left) }
+        ensures failed { OnErr result (self.new.left ≡ self.old.left) }
     {
         if self.left == Some(0) {
             self.ends = self.ends.saturating_add(1);
@@ -140,11 +147,19 @@ impl<R: Net<Listener = TcpListener, Stream = TcpStream> + time::Clock + Copy + S
         }
     }
 
-    fn nodes(&mut self) -> TcpNodes<R> {
+    fn nodes(&mut self) -> TcpNodes<R>
+        ensures faults { self.old.faults ≤ self.new.faults }
+        ensures ends { self.old.ends ≤ self.new.ends }
+        ensures limit { self.new.left ≡ self.old.left }
+    {
         TcpNodes::new(self.runtime)
     }
 
-    fn clock(&mut self) -> MachineClock<R> {
+    fn clock(&mut self) -> MachineClock<R>
+        ensures faults { self.old.faults ≤ self.new.faults }
+        ensures ends { self.old.ends ≤ self.new.ends }
+        ensures limit { self.new.left ≡ self.old.left }
+    {
         MachineClock::new(self.runtime)
     }
 }

@@ -1,4 +1,4 @@
-// A connection over TCP.
+//! A connection over TCP.
 ghost use Rattle.std.specs.Prelude.{◌≡◌, ℕ, ◌<◌, ◌≤◌, length, None};
 
 use grid_outside::{Failed, Link};
@@ -19,6 +19,7 @@ pub struct TcpLink<S: Read + Write + Drop> {
 }
 
 impl<S: Read + Write + Drop> TcpLink<S> {
+    /// Around a stream that is connected. No fault and no end is counted yet.
     pub fn new(stream: S) -> Self
         ensures read_faults { result.read_faults ≡ 0 }
         ensures write_faults { result.write_faults ≡ 0 }
@@ -75,7 +76,7 @@ impl<S: Read + Write + Drop> Link for TcpLink<S> {
         }
     }
 
-    // A write that takes nothing of a piece that is not empty has failed.
+    /// A write that takes nothing of a piece that is not empty has failed.
     fn write(&mut self, from: &[u8]) -> Result<usize, Failed> {
         match self.stream.write(from) {
             Ok(count) if count > 0 || from.is_empty() => Ok(count),

@@ -1,4 +1,4 @@
-// The clock of the machine.
+//! The clock of the machine.
 ghost use Rattle.std.specs.Prelude.{◌≡◌, ℕ, ◌-◌, ◌^◌, ◌<◌, ◌≤◌, min, None};
 ghost use Rattle.grid_outside.specs.Told.{later_by};
 
@@ -19,6 +19,7 @@ pub struct MachineClock<R: time::Clock + Drop> {
 const LATEST: u64 = (1 << 62) - 1;
 
 impl<R: time::Clock + Drop> MachineClock<R> {
+    /// A clock that asks this runtime, and has shown nothing yet.
     pub fn new(runtime: R) -> Self {
         MachineClock { runtime, last: 0 }
     }
