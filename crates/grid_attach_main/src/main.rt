@@ -1,35 +1,18 @@
 //! Puts a driver that already runs behind a hub, as a node.
 #![tactic(auto)]
 
-mod telling;
-
 use grid_attach::attach_main;
+use grid_console::{NoWords, ToldNodes, words};
 use grid_sockets::{MachineClock, TcpNodes};
-use grid_types::Text;
 use server_words::{ATTACH_USAGE, AttachFault};
 use std::alloc::Global;
-use std::io::ErrorKind;
 use std::process::ExitCode;
-use std::rt::Env;
-use std::{env, io};
-use telling::ToldNodes;
 
 /// The words don't fit.
 const REFUSED: u8 = 2;
 
-/// Want of memory.
+/// Out of memory.
 const NO_MEMORY: u8 = 5;
-
-/// The words of the command line, without the program's name.
-fn words<R: Env + AllocGlobal>(rt: &R) -> io::Result<Vec<Text>> {
-    let mut words = Vec::new(rt.alloc());
-    for word in env::args(rt)?.skip(1) {
-        if words.push(Text::from_string(word)).is_err() {
-            return Err(io::Error::from(ErrorKind::OutOfMemory));
-        }
-    }
-    Ok(words)
-}
 
 /// The status of the program, with the reason on standard error. The status says the same where nothing
 /// can be written.
@@ -54,11 +37,10 @@ fn run(rt: HostRuntime) -> u8 {
     let alloc: Global = rt.alloc();
     let words = match words(&rt) {
         Ok(words) => words,
-        // A word that is no text does not fit.
-        Err(error) if error.kind() == ErrorKind::InvalidData => return REFUSED,
-        Err(_) => return NO_MEMORY,
+        Err(NoWords::NotText) => return REFUSED,
+        Err(NoWords::Memory) => return NO_MEMORY,
     };
-    let mut nodes = ToldNodes::new(TcpNodes::new(rt), rt);
+    let mut nodes = ToldNodes::new(rt, "grid_attach", TcpNodes::new(rt), None);
     let mut clock = MachineClock::new(rt);
     match attach_main(alloc, words.as_slice(), &mut nodes, &mut clock, u64::MAX) {
         Ok(()) => 0,

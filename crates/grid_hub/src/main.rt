@@ -1,46 +1,43 @@
 //! The hub of the grid over TCP.
 #![tactic(auto)]
 
-mod announcing;
-
-use announcing::TellingDoor;
+use grid_console::{NoWords, ToldBind, words};
 use grid_sockets::TcpDoor;
 use grid_types::Text;
 use hub_server::hub_main;
-use server_words::HUB_USAGE;
-use std::alloc::Global;
-use std::io::ErrorKind;
+use server_words::{HUB_USAGE, hub_reason};
 use std::process::ExitCode;
-use std::rt::Env;
-use std::{env, io};
 
-/// The words of the command line, without the program's name.
-fn words<R: Env + AllocGlobal>(rt: &R) -> io::Result<Vec<Text>> {
-    let mut words = Vec::new(rt.alloc());
-    for word in env::args(rt)?.skip(1) {
-        if words.push(Text::from_string(word)).is_err() {
-            return Err(io::Error::from(ErrorKind::OutOfMemory));
-        }
+/// The words don't fit.
+const REFUSED: u8 = 2;
+
+/// Out of memory.
+const NO_MEMORY: u8 = 5;
+
+/// Says why the words don't fit. The status says that they don't where this can't be written.
+fn explain(rt: HostRuntime, words: &[Text]) {
+    if let Some(reason) = hub_reason(rt.alloc(), words) {
+        let _ = eprintln!(rt; "grid_hub: {reason}");
     }
-    Ok(words)
 }
 
 fn main(rt: HostRuntime) -> ExitCode {
-    let alloc: Global = rt.alloc();
     let status = match words(&rt) {
         Ok(words) => {
-            let mut door = TellingDoor::new(rt, TcpDoor::new(rt, None));
-            hub_main(&rt, alloc, words.as_slice(), &mut door)
+            let mut door = ToldBind::new(rt, "grid_hub", TcpDoor::new(rt, None));
+            let status = hub_main(&rt, rt.alloc(), words.as_slice(), &mut door);
+            if status == REFUSED {
+                explain(rt, words.as_slice());
+            }
+            status
         }
-        // A word that is no text does not fit.
-        Err(error) if error.kind() == ErrorKind::InvalidData => 2,
-        Err(_) => 5,
+        Err(NoWords::NotText) => REFUSED,
+        Err(NoWords::Memory) => NO_MEMORY,
     };
-    // The status says the same where nothing can be written.
     if status != 0 {
         let _ = eprintln!(rt; "grid_hub: status {status}");
     }
-    if status == 2 {
+    if status == REFUSED {
         let _ = eprint!(rt; "{HUB_USAGE}");
     }
     ExitCode::from(status)

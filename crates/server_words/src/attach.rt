@@ -1,4 +1,4 @@
-// The words of the program that puts a driver behind a hub.
+//! The words of the program that puts a driver behind a hub.
 ghost use Rattle.std.specs.Prelude.{◌≡◌, ◌≢◌, ◌⊎◌, IfErr, IfOk, map, true};
 ghost use Rattle.clap.specs.Words.{app_of, found_of, is_simple_and_free, kind_of, matches_of, rows_of};
 ghost use Rattle.grid_types.specs.Names.{is_node_address};
@@ -60,7 +60,7 @@ pub enum AttachFault {
     Name,
     /// The browser, its version or its platform is too long.
     TooLong,
-    /// Want of memory.
+    /// Out of memory.
     Memory,
 }
 

@@ -1,4 +1,4 @@
-// The words of the hub's program.
+//! The words of the hub's program.
 ghost use Rattle.std.specs.Prelude.{◌≡◌, IfOk, IsErrOf};
 ghost use Rattle.grid_types.specs.Config.{IsValid};
 ghost use Rattle.clap.specs.Words.{app_of, found_of, rows_of};
@@ -6,7 +6,9 @@ ghost use Rattle.server_words.specs.HubOptions.{AreWithin, hub_command, hub_said
 ghost use Rattle.server_words.specs.Options.{IsTaken, NumbersFit};
 ghost use Rattle.server_words.specs.declared.options.WordsFault.TheVariants as fault;
 
-use crate::options::{WordsFault, found, number, number_option, texts, truth, truth_option};
+use crate::options::{
+    WordsFault, found, matched, number, number_option, reason_of, texts, truth, truth_option,
+};
 use clap::{ArgMatches, Command};
 use grid_types::{HubConfig, Text};
 use std::alloc::{AllocError, Global};
@@ -91,4 +93,13 @@ pub fn hub_words(alloc: Global, words: &[Text]) -> Result<HubWords, WordsFault>
     let texts = texts(alloc, words)?;
     let matches = found(command, texts.as_slice())?;
     Ok(told(&matches))
+}
+
+/// What is wrong with words that the hub's program refuses, in one line for whoever called it. None where
+/// they are taken, and where there is no memory to say it.
+pub fn hub_reason(alloc: Global, words: &[Text]) -> Option<String> {
+    let command = command(alloc).ok()?;
+    let texts = texts(alloc, words).ok()?;
+    let error = matched(command, texts.as_slice()).err()?;
+    reason_of(alloc, &error)
 }

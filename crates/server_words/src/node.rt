@@ -1,4 +1,4 @@
-// The words of the node's program.
+//! The words of the node's program.
 ghost use Rattle.std.specs.Prelude.{◌≡◌, IfOk, IsErrOf, false, true};
 ghost use Rattle.clap.specs.Words.{app_of, found_of, rows_of};
 ghost use Rattle.grid_types.specs.Names.{is_node_address};
@@ -6,7 +6,9 @@ ghost use Rattle.server_words.specs.NodeOptions.{FitsNode, hub_address, node_com
 ghost use Rattle.server_words.specs.Options.{NumbersFit};
 ghost use Rattle.server_words.specs.declared.options.WordsFault.TheVariants as fault;
 
-use crate::options::{WordsFault, found, number, number_option, text, text_option, texts};
+use crate::options::{
+    WordsFault, found, matched, number, number_option, reason_of, text, text_option, texts,
+};
 use clap::{ArgMatches, Command};
 use grid_types::{NodeAddress, Text};
 use std::alloc::{AllocError, Global};
@@ -79,4 +81,21 @@ pub fn node_words(alloc: Global, words: &[Text]) -> Result<NodeWords, WordsFault
     let texts = texts(alloc, words)?;
     let matches = found(command, texts.as_slice())?;
     told(alloc, &matches)
+}
+
+/// What is wrong with words that the node's program refuses, in one line for whoever called it. None where
+/// they are taken, and where there is no memory to say it.
+pub fn node_reason(alloc: Global, words: &[Text]) -> Option<String> {
+    let command = command(alloc).ok()?;
+    let texts = texts(alloc, words).ok()?;
+    match matched(command, texts.as_slice()) {
+        // What the command takes and the program doesn't is the hub's address.
+        Ok(_) => match node_words(alloc, words) {
+            Err(WordsFault::Refused) => {
+                String::from_str(alloc, "the value of --hub is no address").ok()
+            }
+            _ => None,
+        },
+        Err(error) => reason_of(alloc, &error),
+    }
 }

@@ -1,4 +1,4 @@
-// Options, what is read of them, and the parse of words.
+//! Options, what is read of them, and the parse of words.
 ghost use Rattle.std.specs.Prelude.{◌≡◌, ◌≢◌, ◌≤◌, ℕ, IfErr, IfOk, IfSome, IsErrOf, List, Some, [], map, option_map, false, true, pos};
 ghost use Rattle.clap.specs.Words.{HasKind, IsSignedIn, app_of, fault_of, first_of, found_of, is_simple_and_free, kind_of, matches_of, rows_of, rule_of};
 ghost use Rattle.server_words.specs.Options.{IsTaken, NumbersFit, number_of, number_or, text_of, text_or, truth_of, truth_or};
@@ -15,7 +15,7 @@ use std::alloc::{AllocError, Global};
 pub enum WordsFault {
     /// The program does not take these words.
     Refused,
-    /// Want of memory.
+    /// Out of memory.
     Memory,
 }
 
@@ -105,6 +105,13 @@ pub fn matched<'a>(command: Command<'a>, words: &'a [&'a str]) -> Result<ArgMatc
     ensures kinds { IfErr result (HasKind (fault_of (app_of command.entry) (map (λ s. s.now) words.entry.now))) }
 {
     command.try_get_matches_from(words)
+}
+
+/// What is wrong with the words, in the first line of what `clap` says; the rest of that is of its own form.
+pub fn reason_of(alloc: Global, error: &Error) -> Option<String> {
+    let text = format!(in alloc; "{error}").ok()?;
+    let line = text.lines().next()?;
+    String::from_str(alloc, line.strip_prefix("error: ")?).ok()
 }
 
 /// What the command finds in the words.

@@ -1,4 +1,4 @@
-// What a node's exchanges come to, said on standard error when it changes.
+//! What a node's exchanges come to, said on standard error when it changes.
 ghost use Rattle.std.specs.Prelude.{◌≡◌, ℕ, ◌≤◌};
 
 use grid_outside::{ExchangeFault, NodeLink, NodeRequest, Reply};
@@ -8,32 +8,37 @@ use std::alloc::Global;
 
 /// Reaches a hub and a driver by another link, and says when what they answer changes.
 #[derive(Drop)]
-pub struct ToldNodes<N: NodeLink + Drop> {
+pub struct ToldNodes<R: Eprint + Drop, N: NodeLink + Drop> {
+    runtime: R,
+    program: &'static str,
     nodes: N,
-    runtime: HostRuntime,
     driver: Option<Contact>,
     hub: Option<Contact>,
 }
 
-impl<N: NodeLink + Drop> ToldNodes<N> {
-    pub fn new(nodes: N, runtime: HostRuntime) -> Self
+impl<R: Eprint + Drop, N: NodeLink + Drop> ToldNodes<R, N> {
+    /// Tells under the program's name of exchanges over `nodes`. The hub's first answer is told where it
+    /// is not `hub`, the driver's always.
+    pub fn new(runtime: R, program: &'static str, nodes: N, hub: Option<Contact>) -> Self
         ensures { result.nodes ≡ nodes }
     {
         ToldNodes {
-            nodes,
             runtime,
+            program,
+            nodes,
             driver: None,
-            hub: None,
+            hub,
         }
     }
 
-    // It works just as well where nothing can be written.
+    /// It works just as well where nothing can be written.
     fn tell_driver(&mut self, contact: Contact)
         ensures { self.new.nodes ≡ self.old.nodes }
     {
         if self.driver != Some(contact) {
             self.driver = Some(contact);
-            let _ = eprintln!(self.runtime; "grid_attach: the driver {contact}");
+            let program = self.program;
+            let _ = eprintln!(self.runtime; "{program}: the driver {contact}");
         }
     }
 
@@ -42,11 +47,12 @@ impl<N: NodeLink + Drop> ToldNodes<N> {
     {
         if self.hub != Some(contact) {
             self.hub = Some(contact);
-            let _ = eprintln!(self.runtime; "grid_attach: the hub {contact}");
+            let program = self.program;
+            let _ = eprintln!(self.runtime; "{program}: the hub {contact}");
         }
     }
 
-    // The driver is looked at, the hub is told.
+    /// A driver is looked at by GET, and a hub is told by POST and DELETE.
     fn tell(&mut self, is_look: bool, contact: Contact)
         ensures { self.new.nodes ≡ self.old.nodes }
     {
@@ -58,7 +64,7 @@ impl<N: NodeLink + Drop> ToldNodes<N> {
     }
 }
 
-impl<N: NodeLink + Drop> NodeLink for ToldNodes<N> {
+impl<R: Eprint + Drop, N: NodeLink + Drop> NodeLink for ToldNodes<R, N> {
     ghost faults = { λ n. N.faults n.nodes };
 
     ghost gives = { λ old address ask came new. N.gives old.nodes address ask came new.nodes };

@@ -1,0 +1,12 @@
+//! What the programs take from their command line, and what they say on standard error.
+#![tactic(auto)]
+
+mod arguments;
+mod binding;
+mod contacts;
+mod nodes;
+
+pub use arguments::{NoWords, words};
+pub use binding::ToldBind;
+pub use contacts::ToldHub;
+pub use nodes::ToldNodes;
