@@ -1,0 +1,61 @@
+//! What a client is to be told, spelled out as the formats say (RFC 9112 §4, WebDriver §6.6).
+use std::alloc::Global;
+
+/// A response.
+#[derive(Clone, Copy)]
+pub enum Told {
+    /// Of the hub: the status with its phrase, and the body.
+    Hub(&'static str, &'static str),
+    /// Of the hub, behind which the connection ends.
+    Last(&'static str, &'static str),
+    /// These bytes.
+    Raw(&'static str),
+}
+
+pub const OK: &str = "200 OK";
+
+pub const BAD: &str = "400 Bad Request";
+
+pub const MISSING: &str = "404 Not Found";
+
+pub const FAULT: &str = "500 Internal Server Error";
+
+pub const CONTINUE: Told = Told::Raw("HTTP/1.1 100 Continue\r\n\r\n");
+
+pub const NULL: Told = Told::Hub(OK, "{\"value\":null}");
+
+pub const NO_SESSION: Told = Told::Hub(
+    MISSING,
+    "{\"value\":{\"error\":\"invalid session id\",\"message\":\"no such session\",\"stacktrace\":\"\"}}",
+);
+
+pub const NO_COMMAND: Told = Told::Hub(
+    MISSING,
+    "{\"value\":{\"error\":\"unknown command\",\"message\":\"no command has this path\",\"stacktrace\":\"\"}}",
+);
+
+// Puts a response of the hub behind the text.
+fn push_hub(alloc: Global, text: &mut String, status: &str, ends: &str, body: &str) -> Option<()> {
+    let response = format!(in alloc;
+        "HTTP/1.1 {status}\r\nContent-Type: application/json; charset=utf-8\r\nCache-Control: no-cache\r\nContent-Length: {}\r\n{ends}\r\n{body}",
+        body.len()
+    )
+    .ok()?;
+    text.push_str(response.as_str()).ok()?;
+    Some(())
+}
+
+/// The responses one after the other.
+pub fn text_of(alloc: Global, told: &[Told]) -> Option<String> {
+    let mut text = String::new(alloc);
+    for one in told {
+        match one {
+            Told::Hub(status, body) => push_hub(alloc, &mut text, status, "", body)?,
+            Told::Last(status, body) => {
+                push_hub(alloc, &mut text, status, "Connection: close\r\n", body)?
+            }
+            Told::Raw(bytes) => text.push_str(bytes).ok()?,
+        }
+    }
+    Some(text)
+}
