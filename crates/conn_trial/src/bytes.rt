@@ -1,3 +1,4 @@
+//! Several pieces of bytes as one.
 use grid_types::NoMemory;
 use std::alloc::Global;
 

@@ -6,4 +6,6 @@ mod by_hand;
 #[cfg(test)]
 mod bytes;
 #[cfg(test)]
+mod scripts;
+#[cfg(test)]
 mod shared;

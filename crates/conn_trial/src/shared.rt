@@ -1,3 +1,4 @@
+//! A connection over a shared hub: a session is created, used and ended, and a write fails.
 ghost use Rattle.hub_cell.specs.Passes.{IsOf};
 
 use crate::bytes::joined;
@@ -9,7 +10,7 @@ use std::alloc::Global;
 use std::sync::Wait;
 use std::test::Fail;
 
-// A node registers, and a session is created there, used and ended.
+/// A node registers, and a session is created there, used and ended.
 const ASKED: [&[u8]; 4] = [
     b"POST /se/grid/distributor/node HTTP/1.1\r\nHost: h\r\nContent-Length: 82\r\n\r\n{\"name\":\"n\",\"address\":\"n:1\",\"maxSessions\":1,\"slots\":[{\"count\":1,\"stereotype\":{}}]}",
     b"POST /session HTTP/1.1\r\nHost: h\r\nContent-Length: 19\r\n\r\n{\"capabilities\":{}}",
@@ -46,8 +47,8 @@ fn nodes_of(alloc: Global) -> Option<MemNodes> {
     Some(nodes)
 }
 
-// Serves the requests over a link that gives five bytes at once and takes seven, and tells how it ended, how many bytes were
-// written, whether they are a front of the answers, and how often the node was asked.
+/// Serves the requests over a link that gives five bytes at once and takes seven, and tells how it ended, how many bytes were
+/// written, whether they are a front of the answers, and how often the node was asked.
 fn served<R: Wait>(
     rt: &R,
     alloc: Global,
@@ -69,7 +70,7 @@ fn served<R: Wait>(
     Some((ended, link.taken().len(), is_front, nodes.made().len()))
 }
 
-// The third write fails at the second time, when the node's name is taken.
+/// The third write fails at the second time, when the node's name is taken.
 #[test]
 fn a_connection_is_served(rt: HostRuntime) -> Result<(), Fail> {
     let alloc = rt.alloc();

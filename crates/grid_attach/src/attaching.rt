@@ -1,4 +1,4 @@
-// The looks at the driver, with what is told to the hub after each.
+//! The looks at the driver, with what is told to the hub after each.
 ghost use Rattle.std.specs.Prelude.{◌≡◌, IfOk};
 ghost use Rattle.grid_attach.specs.Looks.{Attached, IsLook, SignIs, wait_after};
 
@@ -64,7 +64,7 @@ fn wait_after(known: Option<NodeNo>) -> u64
 /// Looks at the driver so many times, and tells the hub of it where it is ready: by its registration, whose body this is,
 /// until the hub has given it a number and after a beat that the hub refused, else by a beat. After a look it waits 30 s
 /// where the node is registered, else 1 s. A driver that is not ready is not told of, so that the node lapses. Gives
-/// the number of the node at the end, if it has one. Err is want of memory, and ends the looks.
+/// the number of the node at the end, if it has one. Err: out of memory, which ends the looks.
 pub fn attach<N: NodeLink, C: Clock>(
     alloc: Global,
     nodes: &mut N,

@@ -1,4 +1,4 @@
-// Whether the driver is there.
+//! Whether the driver is there.
 ghost use Rattle.std.specs.Prelude.{◌≡◌};
 ghost use Rattle.grid_outside.specs.Exchanges.{Came};
 ghost use Rattle.grid_attach.specs.Looks.{ask_for_status, ReadyIs};
@@ -19,7 +19,7 @@ fn ready(came: &Result<Reply, ExchangeFault>) -> Result<bool, NoMemory>
     }
 }
 
-/// Whether the driver answers its own `GET /status` (WebDriver §8.3) with 200. Err is want of memory, in which it was not
+/// Whether the driver answers its own `GET /status` (WebDriver §8.3) with 200. Err: out of memory, in which it was not
 /// asked.
 pub fn is_ready<N: NodeLink>(
     alloc: Global,

@@ -9,6 +9,3 @@ mod registering;
 pub use attaching::{BEAT_MS, RETRY_MS, attach};
 pub use driver::is_ready;
 pub use program::attach_main;
-
-#[cfg(test)]
-mod tests;

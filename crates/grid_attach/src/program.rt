@@ -1,4 +1,4 @@
-// The program over a link to the nodes and a clock.
+//! The program over a link to the nodes and a clock.
 ghost use Rattle.std.specs.Prelude.{◌≡◌, ◌≢◌, Option, ℕ, IfErr, IfOk, OnOk};
 ghost use Rattle.grid_attach.specs.Looks.{Attached};
 ghost use Rattle.grid_attach.specs.Said.{node_said};
@@ -38,7 +38,7 @@ fn attached<N: NodeLink, C: Clock>(
 }
 
 /// Puts the driver of the words behind the hub of the words, by so many looks. Err is why the words don't
-/// fit, in which nothing was asked, or want of memory.
+/// fit, in which nothing was asked, or out of memory.
 pub fn attach_main<N: NodeLink, C: Clock>(
     alloc: Global,
     words: &[Text],

@@ -1,4 +1,4 @@
-// The driver as a node.
+//! The driver as a node.
 ghost use Rattle.std.specs.Prelude.{◌≡◌, ◌∷◌, ◌++◌, [], IfOk, OnOk};
 ghost use Rattle.grid_attach.specs.Said.{node_said, offered, text_cap, told_cap};
 

@@ -1,4 +1,4 @@
-// Telling the hub that the node is there.
+//! Telling the hub that the node is there.
 use grid_outside::{Clock, NodeLink};
 use grid_types::{NodeAddress, NodeNo};
 use node_signs::{Beat, register, send_beat};

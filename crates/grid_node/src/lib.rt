@@ -7,6 +7,3 @@ mod serving;
 mod top;
 
 pub use top::node_main;
-
-#[cfg(test)]
-mod tests;

@@ -1,4 +1,4 @@
-// What the node says of itself.
+//! What the node says of itself.
 ghost use Rattle.std.specs.Prelude.{◌≡◌, ◌∷◌, ◌++◌, [], IfOk};
 ghost use Rattle.grid_node.specs.Registration.{local_address, node_registration, node_stereotype, text_cap};
 

@@ -1,4 +1,4 @@
-// Serving the links that come in.
+//! Serving the links that come in.
 ghost use Rattle.std.specs.Prelude.{◌≡◌, ◌≤◌, ◌⊎◌};
 ghost use Rattle.grid_outside.specs.Counts.{Rose};
 ghost use Rattle.grid_node.specs.Statuses.{HasServed};

@@ -1,4 +1,4 @@
-// The whole of the node's program, over any door.
+//! The whole of the node's program, over any door.
 ghost use Rattle.std.specs.Prelude.{◌≡◌, ◌≤◌, ◌⊎◌, IfOk};
 ghost use Rattle.std.specs.Thread.{IsSync};
 ghost use Rattle.grid_outside.specs.Counts.{Rose};
@@ -23,7 +23,7 @@ use std::thread::{Threads, join};
 /// The words don't fit.
 const REFUSED: u8 = 2;
 
-/// Want of memory.
+/// Out of memory.
 const NO_MEMORY: u8 = 5;
 
 /// Ends a loan.
@@ -60,6 +60,7 @@ fn serve_beside_beats<
             (lent, status)
         },
     );
+    // For the proof alone: the loan of the door ends here.
     take_back(lent);
     status
 }
@@ -141,7 +142,7 @@ fn run<R: Threads + Wait + Sync, D: Door>(
 /// the door, registers at the hub and serves the links that come in one after the other, until the
 /// door is closed. It need not return.
 ///
-/// 0: the door was closed. 2: the words don't fit. 3: the door could not be bound, or failed. 5: want
+/// 0: the door was closed. 2: the words don't fit. 3: the door could not be bound, or failed. 5: out
 /// of memory.
 pub fn node_main<R: Threads + Wait + Sync, D: Door>(
     rt: &R,

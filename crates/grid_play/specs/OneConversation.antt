@@ -11,7 +11,7 @@ abbrev pub OneNode : List (List ℕ) → Type 0
 OneNode words =
     (browser other : List ℕ) (slots count : ℕ) → IsPlay words browser slots → IsPlay words other count → (browser ≡ other) × (slots ≡ count)
 
--- A hub with this node has at most one conversation about these bytes in which no call finds want of memory: two such have
+-- A hub with this node has at most one conversation about these bytes in which no call was out of memory: two such have
 -- the same end, the same steps and the same written bytes, and lead to the same history, node and moment.
 abbrev pub OneConversation : List ℕ → ℕ → List ℕ → Type 0
 OneConversation browser slots bytes =

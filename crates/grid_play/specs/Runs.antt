@@ -30,7 +30,7 @@ Still before (Called call at reply ∷ steps) after = (at ≡ before) × Still b
 Still before (Exchanged address ask came ∷ steps) after = Still before steps after
 Still before (Paused ms ∷ steps) after = Still (later_by before ms) steps after
 
--- no call found want of memory
+-- no call was out of memory
 unfoldable pub NoneLacks : List Step → Type 0
 NoneLacks [] = Unit {0}
 NoneLacks (Called call at reply ∷ steps) = (reply ≢ None) × NoneLacks steps

@@ -22,7 +22,7 @@ pub data Start (r : Reservation) : List Step → Type 0 where
   bound : (reply : HttpReply) (session : List ℕ) (caps : List Cap) (at binding : ℕ) → NamesSession reply session caps →
       Start r (Exchanged r.address (start_ask r.wanted) (replied reply) ∷ Called (Call.bind r session caps) at (Some (Reply.bound binding)) ∷ [])
 
--- rounds of polls until the request is settled: after NotYet and after want of memory a pause, after Yours a start
+-- rounds of polls until the request is settled: after NotYet and after it was out of memory a pause, after Yours a start
 pub data Rounds : Ticket → List Step → Outcome → Type 0 where
   not_yet : {t : Ticket} {steps : List Step} {o : Outcome} (at : ℕ) (u : Ticket) → Rounds u steps o →
       Rounds t (Called (Call.poll t) at (Some (Reply.not_yet u)) ∷ Paused poll_pause ∷ steps) o

@@ -53,7 +53,7 @@ pub record Whole (browser : List ℕ) (slots : ℕ) (given given' : Option (List
   pub built : (bytes ≡ []) ⊎ IsBuilt bytes
   pub played : Played browser slots closed bytes steps written
 
--- the same without want of memory in a step
+-- the same with no step out of memory
 pub record WholeWithMemory (browser : List ℕ) (slots : ℕ) (given given' : Option (List ℕ)) (ends ends' : ℕ) (taken taken' : Option (List ℕ)) : Type 0 where
   pub whole : Whole browser slots given given' ends ends' taken taken'
   pub none_lacks : NoneLacks whole.steps

@@ -1,4 +1,4 @@
-// The hub with one node in memory and a clock that stands still but for pauses.
+//! The hub with one node in memory and a clock that stands still but for pauses.
 ghost use Rattle.std.specs.Prelude.{◌≡◌, ◌≢◌, ◌≤◌, ◌<◌, ◌+◌, ◌-◌, ◌^◌, ℕ, List, true, false, is_some, IfOk, codes};
 ghost use Rattle.grid_types.specs.declared.capabilities.Cap.{Cap};
 ghost use Rattle.grid_types.specs.Calls.{Call, Reply};

@@ -1,4 +1,4 @@
-// A WebDriver endpoint in memory.
+//! A WebDriver endpoint in memory.
 ghost use Rattle.std.specs.Prelude.{◌≡◌, ◌+◌, ◌<◌, ◌^◌, IfOk, OnErr, [], ◌∷◌};
 ghost use Rattle.grid_play.specs.LoopNode.{new_node, node_caps, first_registration, session_id};
 
@@ -28,6 +28,7 @@ impl Model for LoopNode {
 }
 
 impl LoopNode {
+    /// A node under this number, without a session.
     pub fn new(number: NodeNo, browser: Text, slots: u16) -> LoopNode
         ensures { result ≡ new_node number browser slots }
     {

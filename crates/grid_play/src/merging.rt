@@ -1,4 +1,4 @@
-// Which capabilities the body of a New Session asks for.
+//! Which capabilities the body of a New Session asks for.
 ghost use Rattle.std.specs.Prelude.{◌≡◌, ◌≢◌, ℕ, true, List, MatchOption, IfOk, [], ◌∷◌, ◌++◌, codes};
 ghost use Rattle.grid_types.specs.declared.capabilities.Cap.{Cap};
 ghost use Rattle.grid_play.specs.PlayWords.{is_browser};

@@ -1,4 +1,4 @@
-// The responses that are written.
+//! The responses that are written.
 ghost use Rattle.std.specs.Prelude.{◌≡◌, false, IfOk, Some};
 ghost use Rattle.http.specs.StatusCode.{IsStatusCode};
 ghost use Rattle.http_frames.specs.Writing.{has_no_body};

@@ -1,4 +1,4 @@
-// Reading to the end, and writing all.
+//! Reading to the end, and writing all.
 ghost use Rattle.std.specs.Prelude.{◌≡◌, ◌≤◌, ◌<◌, ◌++◌, ℕ, List, IfOk, OnOk, OnErr, IsErrOf, length, vec_len};
 ghost use Rattle.grid_outside.specs.Counts.{Rose, HasCause};
 ghost use Rattle.grid_outside.specs.Told.{Gains};

@@ -1,3 +1,4 @@
+//! One connection in one thread, and its failures.
 use crate::run;
 use grid_outside::{MemSink, MemSource};
 use grid_types::{Bytes, Text};
@@ -16,7 +17,7 @@ const FIREFOX: &[u8] =
 const TIMED_OUT: &[u8] =
     b"HTTP/1.1 500 Internal Server Error\r\nContent-Type: application/json; charset=utf-8\r\nCache-Control: no-cache\r\nContent-Length: 89\r\n\r\n{\"value\":{\"error\":\"session not created\",\"message\":\"request 1 timed out\",\"stacktrace\":\"\"}}";
 
-// The status for these words over this input, whose reads and writes fail at these calls.
+/// The status for these words over this input, whose reads and writes fail at these calls.
 fn played(
     alloc: Global,
     words: &[&str],
@@ -32,7 +33,7 @@ fn played(
     Ok(run(alloc, texts.as_slice(), &mut source, output))
 }
 
-// Inputs for `play chrome 1`, each with its status and what is written.
+/// Inputs for `play chrome 1`, each with its status and what is written.
 #[test]
 fn one_request_is_answered(rt: HostRuntime) -> Result<(), Fail> {
     let alloc = rt.alloc();

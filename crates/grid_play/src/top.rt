@@ -1,4 +1,4 @@
-// The top call.
+//! The top call.
 ghost use Rattle.std.specs.Prelude.{◌≡◌, ◌≢◌, ◌⊎◌, ◌↔◌, ◌≤◌, ◌<◌, ℕ, List, [], true, false, MatchOption, IfOk, IsErrOf, length};
 ghost use Rattle.http_frames.specs.Frames.{closed};
 ghost use Rattle.grid_outside.specs.Counts.{Rose};

@@ -52,7 +52,7 @@ pub record CountMoves : Type 0 where
   pub others : (H : List Entry) (k n : ℕ) (c : Change) → binds_on n c ≡ false →
       bound_count (with_entry H k c) n ≡ bound_count H n
 
--- a node's last beat, and its last turn
+-- a node's last beat, and its last reservation
 pub record BeatMoves : Type 0 where
   pub registered : (H : List Entry) (k m n : ℕ) (r : Registration) (at : Moment) → beat_of (with_entry H k (change.Registered m r at)) n ≡ cond (nat_eq m n) at.0 (beat_of H n)
   pub beaten : (H : List Entry) (k m n : ℕ) (at : Moment) → beat_of (with_entry H k (change.Beaten m at)) n ≡ cond (nat_eq m n) at.0 (beat_of H n)

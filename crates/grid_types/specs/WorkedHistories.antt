@@ -263,7 +263,7 @@ pub record WorkedDeadline : Type 0 where
   -- a moment that is earlier than the last one is raised to it
   pub raised : reply_after default_config ((wants chrome, 5) ∷ []) (wants chrome) 3 ≡ Reply.queued (ticket 2 300_005)
 
--- a poll is told to wait while it is not its request's turn, and then gets the slot
+-- a poll is told to wait while its request is not the chosen one, and then gets the slot
 abbrev pub two_wait : List (Call × ℕ)
 two_wait = (first_node, 0) ∷ (wants chrome, 0) ∷ (wants chrome, 0) ∷ []
 

@@ -1,3 +1,4 @@
+//! Capabilities, lists of choices, and what a node registers.
 ghost use Rattle.std.specs.Prelude.{◌≡◌, ◌++◌, ◌∷◌, [], ◌<◌, ◌≤◌, List, ℕ, IfOk, IfErr, OnOk, OnErr, length};
 
 use crate::names::NodeAddress;
@@ -129,7 +130,7 @@ impl Model for Choices {
 }
 
 impl Choices {
-    /// One choice. Err is want of memory, and gives the list back.
+    /// One choice. Err: out of memory, which gives the list back.
     pub fn one(alloc: Global, first: Caps) -> Result<Choices, Caps>
         ensures ok { IfOk result (λ c. c ≡ first ∷ []) }
         ensures err { IfErr result (λ back. back ≡ first) }
@@ -142,7 +143,7 @@ impl Choices {
     }
 
     /// Puts one more choice last, where there are fewer than 64, which the caller sees to.
-    /// Err is want of memory: all stays as it is and the list comes back.
+    /// Err: out of memory; all stays as it is and the list comes back.
     pub fn push(&mut self, item: Caps) -> Result<(), Caps>
         requires { length self.old < 64 }
         ensures ok { OnOk result (self.new ≡ self.old ++ item ∷ []) }
@@ -181,6 +182,7 @@ impl Clone for Choices {
 #[derive(Debug, Drop)]
 pub struct SlotGroup {
     pub stereotype: Caps,
+    /// How many slots the group has.
     pub count: u16,
 }
 

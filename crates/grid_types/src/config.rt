@@ -1,3 +1,4 @@
+//! The configuration of a hub.
 ghost use Rattle.std.specs.Prelude.{◌↔◌, IsTrue};
 ghost use Rattle.grid_types.specs.Config.{IsValid};
 

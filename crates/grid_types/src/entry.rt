@@ -1,3 +1,4 @@
+//! Entries of a history: what changed, and the words in it.
 use crate::capabilities::{Caps, Choices, Registration};
 use crate::names::{Moment, NodeAddress, NodeNo, ReqNo, SessionId, SlotId, Words};
 

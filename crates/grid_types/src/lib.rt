@@ -30,6 +30,3 @@ pub use spent::Spent;
 pub use text::{Bytes, NoMemory, Text};
 pub use view::{NodeView, NodeViews, SlotState, SlotViews, Standing, View, WaitView, WaitViews};
 pub use worked::{full_grid, worked_histories};
-
-#[cfg(test)]
-mod tests;

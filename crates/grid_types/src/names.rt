@@ -1,3 +1,4 @@
+//! Moments, and the names of nodes, requests, slots and sessions.
 ghost use Rattle.std.specs.Prelude.{◌≡◌, ◌≤◌, List, ℕ, IfSome, is_some, IsTrue, IsUtf8, length, replicate};
 ghost use Rattle.grid_types.specs.Padded.{padded};
 ghost use Rattle.std.specs.List.{list_all};
@@ -21,10 +22,11 @@ pub type ReqNo = u64;
 #[derive(Clone, Copy, Debug, PartialEq, Eq, PartialOrd, Ord)]
 pub struct SlotId {
     pub node: NodeNo,
+    /// The slot's place among those of the node, from 0.
     pub index: u16,
 }
 
-// Copies the bytes to the front of what is all zeros.
+/// Copies the bytes to the front of what is all zeros.
 fn fill(content: &mut [u8], bytes: &[u8])
     requires room { length bytes.now ≤ length content.old }
     requires zeros { content.old ≡ replicate (length content.old) 0 }

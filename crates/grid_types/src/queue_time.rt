@@ -20,7 +20,7 @@ fn are_digits(bytes: &[u8]) -> bool
     bytes.iter().all(|b| b.is_ascii_digit())
 }
 
-// The number of milliseconds that digits alone write, where a request may ask for it.
+/// The number of milliseconds that digits alone write, where a request may ask for it.
 fn milliseconds(text: &str) -> Option<u64>
     ensures { result ≡ when (is_queue_time text.now) (digits_value 10 text.now) }
 {

@@ -1,3 +1,4 @@
+//! Texts and bytes that are owned, and the error `NoMemory`.
 ghost use Rattle.std.specs.Prelude.{◌≡◌, List, ℕ, IfOk, IsUtf8, string_bytes};
 
 use std::alloc::{AllocError, Global};
@@ -33,7 +34,7 @@ impl Text {
         Text { content }
     }
 
-    /// A copy of the text. Err is want of memory.
+    /// A copy of the text. Err: out of memory.
     pub fn of(alloc: Global, text: &str) -> Result<Text, NoMemory>
         ensures { IfOk result (λ t. t ≡ text.now) }
     {
@@ -83,7 +84,7 @@ impl Bytes {
         Bytes { content }
     }
 
-    /// A copy of the bytes. Err is want of memory.
+    /// A copy of the bytes. Err: out of memory.
     pub fn of(alloc: Global, bytes: &[u8]) -> Result<Bytes, NoMemory>
         ensures { IfOk result (λ b. b ≡ bytes.now) }
     {

@@ -1,3 +1,4 @@
+//! What a hub shows of itself.
 ghost use Rattle.std.specs.Prelude.{◌≡◌, ◌++◌, ◌∷◌, [], List, ℕ, IfErr, OnOk, OnErr};
 
 use crate::capabilities::Registration;
@@ -38,6 +39,7 @@ pub struct NodeView {
     pub node: NodeNo,
     pub registration: Registration,
     pub standing: Standing,
+    /// The slots in their order, from index 0.
     pub slots: SlotViews,
 }
 
@@ -45,6 +47,7 @@ pub struct NodeView {
 #[derive(Clone, Copy, Debug, PartialEq, Eq)]
 pub struct WaitView {
     pub request: ReqNo,
+    /// From this moment on the request is overdue.
     pub deadline: Moment,
     /// How many choices it has.
     pub choices: u16,

@@ -8,6 +8,7 @@ use hub_core::{Binding, Dispatched, Enqueued, Polled};
 use std::sync::Wait;
 
 /// Beats as often as `times`, each in a turn of its own. Whatever other passes do in between, the pass has all its tokens still.
+/// Err: no turn is left.
 pub fn beats<R: Wait>(
     rt: &R,
     hub: &SharedHub,

@@ -4,8 +4,6 @@
 mod alone;
 mod finding;
 mod many;
-#[cfg(test)]
-mod tests;
 
 pub use alone::{beats, start_far_away};
 pub use finding::find_published;

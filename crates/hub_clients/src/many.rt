@@ -42,7 +42,7 @@ fn beat_often<R: Wait>(
     Ok(pass)
 }
 
-// Lists the node as number 1.
+/// Lists the node as number 1.
 fn list_first<R: Wait>(rt: &R, hub: &SharedHub, pass: &mut Pass, node: Registration) -> Option<()>
     requires { IsOf hub.now pass.old × (is_well_sized node ≡ true) × ((knows pass.old).mine ≡ []) }
     ensures { IfSome result (λ _. IsOf hub.now pass.new × IsListing (knows pass.old).number node (knows pass.new).mine × ((knows pass.new).ended ≡ (knows pass.old).ended)) }
@@ -61,7 +61,7 @@ fn another<R: Wait>(rt: &R, hub: &SharedHub, pass: &mut Pass) -> Option<Pass>
     hub.split(rt, pass).ok()
 }
 
-// Joins a pass that has made as many entries as `count`.
+/// Joins a pass that has made as many entries as `count`.
 fn rejoin(hub: &SharedHub, pass: &mut Pass, other: Pass, count: u64)
     requires own { IsOf hub.now pass.old × EachHas count (knows pass.old).ended }
     requires other { HasMade hub.now count other }
@@ -125,7 +125,7 @@ fn all_beat<R: Threads + Wait + Sync>(
     done.ok()
 }
 
-// Lists the node as number 1, lets so many passes beat it in threads of their own, and joins them.
+/// Lists the node as number 1, lets so many passes beat it in threads of their own, and joins them.
 fn beat_all<R: Threads + Wait + Sync>(
     rt: &R,
     alloc: Global,

@@ -1,3 +1,4 @@
+//! A list of sessions.
 ghost use Rattle.std.specs.Prelude.{◌≡◌, [], ◌∷◌, ◌++◌, OnOk};
 
 use grid_types::{NoMemory, SessionId};

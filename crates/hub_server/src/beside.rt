@@ -1,4 +1,4 @@
-// What runs beside the links: workers, again and again, and a ticker.
+//! What runs beside the links: workers, again and again, and a ticker.
 ghost use Rattle.std.specs.Prelude.{◌≡◌, ◌≤◌, ◌⊎◌, All, vec_len};
 ghost use Rattle.std.specs.Thread.{IsSync};
 ghost use Rattle.hub_cell.specs.Passes.{IsOf, spares_of};
@@ -131,6 +131,7 @@ fn serve_beside_ticker<R: Threads + Wait + Sync, D: Door>(
             (lent, status)
         },
     );
+    // For the proof alone: the loan of the door ends here.
     take_back(lent);
     status
 }
@@ -168,6 +169,7 @@ pub(crate) fn serve_beside_all<R: Threads + Wait + Sync, D: Door>(
             (lent, status)
         },
     );
+    // For the proof alone: the loan of the door ends here.
     take_back(lent);
     status
 }

@@ -1,4 +1,4 @@
-// Handlers, which serve the links that come in beside each other.
+//! Handlers, which serve the links that come in beside each other.
 ghost use Rattle.std.specs.Prelude.{◌≡◌, ◌≤◌, ◌⊎◌, All};
 ghost use Rattle.hub_cell.specs.Passes.{IsOf};
 ghost use Rattle.grid_outside.specs.Counts.{Rose};
@@ -19,7 +19,7 @@ const CLOSED: u8 = 0;
 /// The door could not be bound, or failed.
 pub(crate) const DOOR_FAILED: u8 = 3;
 
-/// Want of memory, or of threads.
+/// Out of memory, or of threads.
 pub(crate) const NO_MEMORY: u8 = 5;
 
 /// A link, and what its handler works with.
@@ -136,6 +136,7 @@ fn serve_at<'a, R: Threads + Wait + Sync, D: Door>(
             (lent, status)
         },
     );
+    // For the proof alone: the loan of the door ends here.
     take_back(lent);
     status
 }

@@ -1,4 +1,4 @@
-// The passes of the hub, which all come from the first.
+//! The passes of the hub, which all come from the first.
 ghost use Rattle.std.specs.Prelude.{◌≡◌, ◌≤◌, ◌+◌, [], All, IfOk, OnOk, Result, vec_len, vec_capacity};
 ghost use Rattle.hub_cell.specs.Passes.{IsOf, spares_of};
 
@@ -19,7 +19,7 @@ pub(crate) fn another<R: Wait>(rt: &R, hub: &SharedHub, first: &mut Pass) -> Res
     }
 }
 
-/// As many passes as are wanted, or fewer for want of memory, where there is room for them.
+/// As many passes as are wanted, where there is room for them, or fewer where it is out of memory.
 pub(crate) fn split_off<R: Wait>(
     rt: &R,
     hub: &SharedHub,

@@ -1,4 +1,4 @@
-// The whole of the hub's program, over any door.
+//! The whole of the hub's program, over any door.
 ghost use Rattle.std.specs.Prelude.{◌≡◌, ◌≤◌, ◌⊎◌, ◌+◌, IfOk, vec_len};
 ghost use Rattle.grid_types.specs.Config.{IsValid};
 ghost use Rattle.grid_outside.specs.Counts.{Rose};
@@ -124,7 +124,7 @@ fn serve_hub<R: Threads + Wait + Sync, D: Door>(
 /// start sessions, and a ticker, which lets go what is over by its time. A link that finds no free handler
 /// waits. It ends once the door is closed, or fails, and all links have ended. It need not return.
 ///
-/// 0: the door was closed. 2: the words don't fit. 3: the door could not be bound, or failed. 5: want
+/// 0: the door was closed. 2: the words don't fit. 3: the door could not be bound, or failed. 5: out
 /// of memory.
 pub fn hub_main<R: Threads + Wait + Sync, D: Door>(
     rt: &R,

@@ -1,5 +1,10 @@
 //! The driver of a connection over a shared hub: what the connection wants is done by a pass of the hub, a link, the link
 //! to the nodes and a clock.
+//!
+//! Choices that concern this crate alone:
+//!
+//! - The buffer for reads lies in the frame of the driver (65,536 bytes), so a connection needs no memory before its
+//!   first request, and is never refused it.
 #![tactic(auto)]
 
 mod calls;

@@ -1,10 +1,10 @@
-// Names of bytes as texts.
+//! Names of bytes as texts.
 ghost use Rattle.std.specs.Prelude.{◌≡◌};
 
 use grid_types::{NodeAddress, SessionId};
 use std::str::from_utf8;
 
-// An id is of letters, digits, '-' and '_'.
+/// An id is of letters, digits, '-' and '_'.
 pub(crate) fn session_text(session: &SessionId) -> &str
     ensures { result.now ≡ session.now }
 {
@@ -14,7 +14,7 @@ pub(crate) fn session_text(session: &SessionId) -> &str
     }
 }
 
-// An address is of visible ASCII characters.
+/// An address is of visible ASCII characters.
 pub(crate) fn address_text(address: &NodeAddress) -> &str
     ensures { result.now ≡ address.now }
 {

@@ -1,4 +1,4 @@
-// The nodes of a status, with their groups of slots.
+//! The nodes of a status, with their groups of slots.
 ghost use Rattle.std.specs.Prelude.{◌≡◌, ◌+◌, ◌<◌, ◌≤◌, ◌^◌, ◌++◌, OnOk, length, map, min, string_bytes};
 ghost use Rattle.std.specs.List.{join_with_byte};
 ghost use Rattle.grid_types.specs.Capabilities.{written_caps};
@@ -77,7 +77,7 @@ fn availability(standing: Standing) -> &'static str
     }
 }
 
-// Each group shows as many of the slots as it counts.
+/// Each group shows as many of the slots as it counts.
 fn push_groups(
     alloc: Global,
     text: &mut String,
@@ -118,7 +118,7 @@ fn push_group(
     Ok(())
 }
 
-// How many of the slots are the group's.
+/// How many of the slots are the group's.
 fn slots_of(group: &SlotGroup, rest: &[SlotState]) -> usize
     ensures { result ≡ min group.now.count (length rest.now) }
 {

@@ -1,4 +1,4 @@
-// The waiting requests.
+//! The waiting requests.
 ghost use Rattle.std.specs.Prelude.{◌≡◌, ◌++◌, IfOk, OnOk, map, string_bytes};
 ghost use Rattle.std.specs.List.{join_with_byte};
 ghost use Rattle.hub_status.specs.Queue.{written_wait, queue_bytes};

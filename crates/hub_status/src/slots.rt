@@ -1,4 +1,4 @@
-// The slots of a group.
+//! The slots of a group.
 ghost use Rattle.std.specs.Prelude.{◌≡◌, ◌+◌, ◌<◌, ◌^◌, ◌++◌, OnOk, length, string_bytes};
 ghost use Rattle.std.specs.List.{join_with_byte};
 ghost use Rattle.hub_status.specs.Status.{state_name as name_of, state_session, written_state, written_states};
@@ -8,7 +8,7 @@ use crate::names::session_text;
 use grid_types::{NoMemory, SlotState};
 use std::fmt::Write;
 
-// The slots, the first of which has this index in its node.
+/// The slots, the first of which has this index in its node.
 pub(crate) fn push_states(
     text: &mut String,
     first: usize,
@@ -49,7 +49,7 @@ fn state_name(state: &SlotState) -> &'static str
     }
 }
 
-// Ids are letters, digits, '-' and '_', so they need no escape.
+/// Ids are letters, digits, '-' and '_', so they need no escape.
 fn push_session(text: &mut String, state: &SlotState) -> Result<(), NoMemory>
     ensures { OnOk result (string_bytes text.new ≡ string_bytes text.old ++ state_session state.now) }
 {

@@ -1,4 +1,4 @@
-// The body of the status.
+//! The body of the status.
 ghost use Rattle.std.specs.Prelude.{◌≡◌, IfOk};
 ghost use Rattle.hub_status.specs.Status.{status_bytes, written_ready};
 

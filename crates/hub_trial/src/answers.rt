@@ -1,3 +1,4 @@
+//! Answers of all calls as one type, without the tokens.
 use grid_types::{Moment, NoMemory, NodeAddress, NodeNo, Outcome, ReqNo, SessionId, SlotId, View};
 use hub_core::{Closing, Reservation};
 

@@ -52,6 +52,7 @@ impl Desk {
         self.hub.journal()
     }
 
+    /// Registers a node. Its moment is in milliseconds, as that of all calls.
     pub fn register(&mut self, node: Registration, at: Moment) -> Result<Answer, Fault>
         requires { is_well_sized node ≡ true }
     {
@@ -65,12 +66,14 @@ impl Desk {
         }
     }
 
+    /// Queues a request, and keeps its ticket.
     pub fn enqueue(&mut self, choices: Choices, at: Moment) -> Result<Answer, Fault> {
         self.hub.room()?;
         let enqueued = self.hub.enqueue(choices, at);
         self.drawers.keep_enqueued(enqueued)
     }
 
+    /// Asks how the request stands, by its ticket. `NoToken`: the desk has none for it.
     pub fn poll(&mut self, request: ReqNo, at: Moment) -> Result<Answer, Fault> {
         let Some(ticket) = self.drawers.take_ticket(request) else {
             return Err(Fault::NoToken);
@@ -108,11 +111,13 @@ impl Desk {
         })
     }
 
+    /// Makes the next assignment, and keeps its reservation.
     pub fn dispatch(&mut self, at: Moment) -> Result<Answer, Fault> {
         let dispatched = self.hub.dispatch(at);
         self.drawers.keep_dispatched(dispatched)
     }
 
+    /// Frees a slot, by its closing. `NoToken`: the desk has none for it.
     pub fn freed(&mut self, slot: SlotId) -> Result<Answer, Fault> {
         let Some(closing) = self.drawers.take_closing(slot) else {
             return Err(Fault::NoToken);
@@ -121,6 +126,7 @@ impl Desk {
         Ok(Answer::Freed)
     }
 
+    /// A sign of life of a node.
     pub fn beat(&mut self, node: NodeNo, at: Moment) -> Result<Answer, Fault> {
         self.hub.room()?;
         Ok(match self.hub.beat(node, at) {
@@ -129,6 +135,7 @@ impl Desk {
         })
     }
 
+    /// Drains a node: it gets no session more, and is removed by a sweep once it has none.
     pub fn drain(&mut self, node: NodeNo, at: Moment) -> Result<Answer, Fault> {
         self.hub.room()?;
         Ok(match self.hub.drain(node, at) {
@@ -137,6 +144,7 @@ impl Desk {
         })
     }
 
+    /// Takes a node off. Its running sessions go on.
     pub fn remove(&mut self, node: NodeNo, at: Moment) -> Result<Answer, Fault> {
         self.hub.room()?;
         Ok(match self.hub.remove(node, at) {
@@ -145,6 +153,7 @@ impl Desk {
         })
     }
 
+    /// Where the session runs.
     pub fn lookup(&self, session: &SessionId) -> Answer {
         match self.hub.lookup(session) {
             Found::At {
@@ -160,6 +169,7 @@ impl Desk {
         }
     }
 
+    /// Puts off that the session is idle.
     pub fn touch(
         &mut self,
         session: &SessionId,
@@ -173,6 +183,7 @@ impl Desk {
         })
     }
 
+    /// Ends a session for its client, and keeps its closing.
     pub fn end(
         &mut self,
         session: &SessionId,
@@ -184,6 +195,7 @@ impl Desk {
         self.drawers.keep_ended(ended)
     }
 
+    /// Lapses and suspects silent nodes, times overdue requests out and removes drained nodes.
     pub fn sweep(&mut self, at: Moment) -> Result<Answer, Fault> {
         self.hub.room()?;
         let swept = self.hub.sweep(at);
@@ -195,17 +207,20 @@ impl Desk {
         })
     }
 
+    /// Ends one idle session, and keeps its closing.
     pub fn expire(&mut self, at: Moment) -> Result<Answer, Fault> {
         self.hub.room()?;
         let expired = self.hub.expire(at);
         self.drawers.keep_expired(expired)
     }
 
+    /// Clears the queue, and tells how many requests that settled.
     pub fn clear(&mut self, at: Moment) -> Result<Answer, Fault> {
         self.hub.room()?;
         Ok(Answer::Cleared(self.hub.clear(at)))
     }
 
+    /// What the hub shows of itself.
     pub fn view(&self) -> Result<Answer, Fault> {
         Ok(Answer::Viewed(self.hub.view()?))
     }

@@ -1,4 +1,4 @@
-//! Makes a few thousand calls of hubs of one caller, by dice from a number, and compares the answer of each, and the
+//! Makes a few thousand calls of hubs of one caller, at random from a number, and compares the answer of each, and the
 //! entries that it made, with what the plain twin reads from the journal before the call.
 #![tactic(auto)]
 

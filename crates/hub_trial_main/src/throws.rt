@@ -1,4 +1,4 @@
-//! Calls that the dice pick.
+//! Calls picked at random.
 use crate::dice::Dice;
 use crate::scene::Scene;
 use grid_types::{Change, Moment, NodeNo, ReqNo, SlotId};

@@ -1,4 +1,4 @@
-//! Calls by dice, each with what the plain twin foretells of it.
+//! Calls at random, each with what the plain twin foretells of it.
 use crate::dice::Dice;
 use crate::foretold::{Foretold, foretell};
 use crate::scene::Scene;
@@ -85,7 +85,7 @@ fn agree(
     Ok(wanted.as_str() == got.as_str() && made.iter().all(|entry| entry.caller == 0))
 }
 
-/// Throws the dice once, and makes the call that they pick.
+/// Throws the dice once, and makes the call that this picks at random.
 fn step(
     alloc: Global,
     config: &HubConfig,
@@ -130,7 +130,7 @@ fn history(alloc: Global, seed: u64, calls: u32, tally: &mut Tally) -> Result<()
     Ok(())
 }
 
-/// Makes so many calls of each of so many hubs, by dice, and compares each answer and the entries that the call made
+/// Makes so many calls of each of so many hubs, at random, and compares each answer and the entries that the call made
 /// with what the plain twin foretells.
 pub fn play(alloc: Global, hubs: u64, calls: u32) -> Result<Tally, Stop> {
     let mut tally = Tally::new(alloc);

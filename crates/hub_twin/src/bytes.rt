@@ -1,3 +1,4 @@
+//! How many bytes the unsettled requests have.
 ghost use Rattle.std.specs.Prelude.{◌≡◌, ◌-◌, ◌^◌, min};
 ghost use Rattle.grid_types.specs.History.{history_of};
 ghost use Rattle.grid_types.specs.Requests.{unsettled_bytes};

@@ -1,3 +1,4 @@
+//! Which assignment is made next.
 ghost use Rattle.std.specs.Prelude.{◌≡◌, ◌*◌, flat_map, option_map};
 ghost use Rattle.grid_types.specs.Lists.{better};
 ghost use Rattle.grid_types.specs.History.{history_of, nodes, node_told, request_told};

@@ -1,3 +1,4 @@
+//! The clock, and the next numbers of nodes and requests.
 ghost use Rattle.std.specs.Prelude.{◌≡◌, ◌-◌, ◌^◌, min, option_map};
 ghost use Rattle.grid_types.specs.History.{history_of, clock, moment_of, next_node, next_request};
 

@@ -1,3 +1,4 @@
+//! Which slots fit a request, and who serves it.
 ghost use Rattle.std.specs.Prelude.{◌≡◌, ◌<◌, ◌&&◌, nat_lt, option_copied};
 ghost use Rattle.std.specs.List.{list_any, slice_get};
 ghost use Rattle.grid_types.specs.History.{history_of};

@@ -1,5 +1,14 @@
 //! Each fact about a hub, read from its journal by a plain loop: the journal has the entries in order, the oldest
 //! first. There is no table and no index, and nothing takes memory.
+//!
+//! Choices that concern this crate alone:
+//!
+//! - A journal that isn't legal may give a node more slots than a slot's number can name. What goes over all slots
+//!   asks that each can be named: `has_slot_numbers` is the test, and `legal_has_slot_numbers` the law for legal
+//!   histories.
+//! - An address is an `Option` in what is told of a session, since only in a legal history every session ran on a
+//!   node that registered; there it is told, as a clause.
+//! - Counts saturate at their type's end.
 #![tactic(auto)]
 
 mod bytes;
@@ -33,6 +42,3 @@ pub use requests::{Asked, asked_of, deadline_of, is_taken, unsettled_count};
 pub use sessions::{Running, bound_of, live};
 pub use slots::{SlotHolder, bound_slot, has_slot_numbers, holder, slot_count};
 pub use views::{has_ready_node, slot_state, wait_view};
-
-#[cfg(test)]
-mod tests;

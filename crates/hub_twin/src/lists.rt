@@ -1,3 +1,4 @@
+//! Nodes, requests and bindings by their places in lists.
 ghost use Rattle.std.specs.Prelude.{◌≡◌, nat_lt};
 ghost use Rattle.std.specs.List.{slice_get};
 ghost use Rattle.grid_types.specs.Lists.{least};

@@ -1,3 +1,4 @@
+//! The nodes and the requests that a list keeps.
 ghost use Rattle.std.specs.Prelude.{◌≡◌};
 ghost use Rattle.grid_types.specs.History.{history_of, node_told, request_told};
 ghost use Rattle.hub_twin.specs.Meant.{node_passes, request_passes};

@@ -1,3 +1,4 @@
+//! What a journal says of a node.
 ghost use Rattle.std.specs.Prelude.{◌≡◌, ◌&&◌, is_some, option_copied, unwrap_or, [], find, List, ℕ, Option};
 ghost use Rattle.grid_types.specs.declared.capabilities.Registration.{Registration};
 ghost use Rattle.grid_types.specs.History.{history_of, nodes};

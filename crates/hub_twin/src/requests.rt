@@ -1,3 +1,4 @@
+//! What a journal says of a request.
 ghost use Rattle.std.specs.Prelude.{◌≡◌, option_map, option_copied, unwrap_or, filter, length, []};
 ghost use Rattle.std.specs.List.{slice_get};
 ghost use Rattle.grid_types.specs.History.{history_of, request_told};

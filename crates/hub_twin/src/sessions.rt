@@ -1,3 +1,4 @@
+//! What a journal says of sessions and their bindings.
 ghost use Rattle.std.specs.Prelude.{◌≡◌, true, option_map};
 ghost use Rattle.grid_types.specs.declared.config.HubConfig.{HubConfig};
 ghost use Rattle.grid_types.specs.Legal.{legal};

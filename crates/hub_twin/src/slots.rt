@@ -1,3 +1,4 @@
+//! What a journal says of a slot.
 ghost use Rattle.std.specs.Prelude.{◌≡◌, ◌-◌, ◌^◌, min, length, option_map, ◌↔◌, IsTrue};
 ghost use Rattle.grid_types.specs.History.{history_of};
 ghost use Rattle.grid_types.specs.Nodes.{stereotypes, stereotypes_of};

@@ -1,3 +1,4 @@
+//! What is shown of nodes, slots and waiting requests.
 ghost use Rattle.std.specs.Prelude.{◌≡◌, ◌-◌, ◌^◌, min, length};
 ghost use Rattle.std.specs.List.{list_any};
 ghost use Rattle.grid_types.specs.History.{history_of, nodes};

@@ -1,3 +1,4 @@
+//! The two loops over a journal: what was told last, and what is listed.
 ghost use Rattle.std.specs.Prelude.{◌≡◌, Bool, List, Option, Some, ℕ, find, filter, length, nat_lt};
 ghost use Rattle.std.specs.List.{list_any, slice_get};
 ghost use Rattle.grid_types.specs.declared.entry.Entry.{Entry};

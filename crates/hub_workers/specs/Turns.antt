@@ -104,7 +104,7 @@ pub record LookedAll (found : Idle) (steps : List Step) : Type 0 where
   pub last : Looked found own
   pub steps_are : steps ≡ done ++ own
 
--- after the sweep each idle session is ended, until there is none, and then comes a pause; want of memory ends the turn
+-- after the sweep each idle session is ended, until there is none, and then comes a pause; out of memory the turn ends
 pub data AfterSweep : List Step → Type 0 where
   ends_with_pause : {own : List Step} → LookedAll idle.Over own → AfterSweep (own ++ Paused ticker_pause ∷ [])
   looks_lack : {own : List Step} → LookedAll idle.Lacks own → AfterSweep own

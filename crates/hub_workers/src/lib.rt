@@ -1,5 +1,10 @@
 //! What a shared hub does by itself, beside its connections: workers that start sessions, and a
 //! ticker that lets go what is over by its time.
+//!
+//! Choices that concern this crate alone:
+//!
+//! - A ticker makes no pause in a turn that ended out of memory. A start that finds the hub spent ends its worker's
+//!   turn; what it holds is let go, since no turn can be had any more.
 #![tactic(auto)]
 
 mod ends;

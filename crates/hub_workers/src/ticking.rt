@@ -25,7 +25,7 @@ pub enum Idle {
     Ended,
     /// There is none.
     Over,
-    /// Want of memory, for the call or for the request to the node.
+    /// Out of memory, for the call or for the request to the node.
     Lacks,
     Spent(Spent),
 }
@@ -178,7 +178,7 @@ fn end_then_pause<R: Wait, N: NodeLink, C: Clock>(
 }
 
 /// Makes so many turns: each sweeps, ends the sessions that were idle for too long, and pauses for
-/// a second. Want of memory ends a turn early, without its pause.
+/// a second. Out of memory it ends a turn early, without its pause.
 pub fn ticker<R: Wait, N: NodeLink, C: Clock>(
     rt: &R,
     alloc: Global,

@@ -1,4 +1,4 @@
-// How many elements a list has.
+//! How many elements a list has.
 ghost use Rattle.std.specs.Prelude.{◌≡◌};
 ghost use Rattle.json_spans.specs.Parts.{kind_of};
 ghost use Rattle.json_spans.specs.Span.{part_of};

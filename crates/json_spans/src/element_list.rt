@@ -1,3 +1,4 @@
+//! The elements of a list.
 use crate::span::Span;
 use std::marker::Model;
 

@@ -1,4 +1,4 @@
-// What the definitions say among themselves. The functions do nothing: their contracts are the laws.
+//! What the definitions say among themselves. The functions do nothing: their contracts are the laws.
 ghost use Rattle.std.specs.Prelude.{◌≡◌, ℕ, List, Some};
 ghost use Rattle.serde_json.specs.Read.{read};
 ghost use Rattle.serde_json.specs.Data.{string};

@@ -1,4 +1,4 @@
-// The elements of a list.
+//! The elements of a list.
 ghost use Rattle.std.specs.Prelude.{◌≡◌, ◌≤◌, IfOk, IfErr, length};
 ghost use Rattle.json_spans.specs.Parts.{kind_of};
 ghost use Rattle.json_spans.specs.Span.{part_of};

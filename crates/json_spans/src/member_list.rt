@@ -1,3 +1,4 @@
+//! The members of an object.
 use crate::span::Span;
 use std::marker::Model;
 

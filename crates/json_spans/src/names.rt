@@ -1,4 +1,4 @@
-// Names that come twice.
+//! Names that come twice.
 ghost use Rattle.std.specs.Prelude.{◌≡◌, ◌≤◌, ◌<◌, IfOk, IfErr, OnOk, get_or, MatchOption, IsTrue, ◌↔◌, length, map};
 ghost use Rattle.json_spans.specs.Parts.{kind_of};
 ghost use Rattle.json_spans.specs.Span.{part_of, pair_of};
@@ -20,7 +20,7 @@ fn same_text(a: &Text, b: &Text) -> bool
     a.as_str() == b.as_str()
 }
 
-// The first text that stands before, and its earlier place.
+/// The first text that stands before, and its earlier place.
 fn first_twice(texts: &[Text]) -> Option<(usize, usize)>
     ensures { MatchOption result (Distinct texts.now (length texts.now)) (λ p. Twice texts.now p.0 p.1) }
 {
@@ -57,7 +57,7 @@ fn name_place(pairs: &[(Span<'_>, Span<'_>)], i: usize) -> u64
     name.place()
 }
 
-// Whether two members have one name.
+/// Whether two members have one name.
 fn check_names(alloc: Global, pairs: &[(Span<'_>, Span<'_>)]) -> Result<(), JsonFault>
     requires { HaveNames (map pair_of pairs.now) }
     ensures ok { OnOk result (Differ (map pair_of pairs.now) (length pairs.now)) }

@@ -1,4 +1,4 @@
-// The members of an object.
+//! The members of an object.
 ghost use Rattle.std.specs.Prelude.{◌≡◌, ◌≤◌, IfOk, IfErr, OnOk, length, map, ◌++◌, ◌∷◌, []};
 ghost use Rattle.json_spans.specs.Parts.{kind_of};
 ghost use Rattle.json_spans.specs.Span.{part_of, pair_of};
@@ -29,7 +29,7 @@ fn keep_pair<'a>(
     }
 }
 
-// The members, whatever their names.
+/// The members, whatever their names.
 pub(crate) fn all_members<'a>(alloc: Global, span: Span<'a>) -> Result<MemberList<'a>, JsonFault>
     requires { kind_of (part_of span).bytes ≡ Kind.Object }
     ensures ok { IfOk result (AreMembersOf (part_of span.entry)) }

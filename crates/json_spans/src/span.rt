@@ -1,3 +1,4 @@
+//! One value of a text, as a slice of it.
 ghost use Rattle.std.specs.Prelude.{◌≡◌, ◌<◌, ◌+◌, ◌^◌, length, true};
 ghost use Rattle.std.specs.Str.{is_utf8};
 ghost use Rattle.json_spans.specs.Parts.{is_value, kind_of};

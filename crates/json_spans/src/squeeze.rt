@@ -1,4 +1,4 @@
-// A value's text without the white space outside its strings.
+//! A value's text without the white space outside its strings.
 ghost use Rattle.std.specs.Prelude.{◌≡◌, IfOk};
 ghost use Rattle.json_spans.specs.Squeeze.{next, drops, squeezed};
 ghost use Rattle.json_spans.specs.Span.{part_of};
@@ -61,7 +61,7 @@ fn squeeze(alloc: Global, bytes: &[u8]) -> Result<Vec<u8>, AllocError>
     Ok(out)
 }
 
-/// The text of a value without the white space outside its strings. Err is want of memory.
+/// The text of a value without the white space outside its strings. Err: out of memory.
 pub fn squeezed(alloc: Global, span: Span<'_>) -> Result<Text, NoMemory>
     // It spells the value with no white space.
     ensures tight { IfOk result (IsTight (part_of span.entry)) }

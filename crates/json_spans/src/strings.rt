@@ -1,4 +1,4 @@
-// The characters of a string, as `serde_json` reads them.
+//! The characters of a string, as `serde_json` reads them.
 ghost use Rattle.std.specs.Prelude.{◌≡◌, IfOk, Some};
 ghost use Rattle.json_spans.specs.Parts.{kind_of};
 ghost use Rattle.json_spans.specs.Span.{part_of};
@@ -32,7 +32,7 @@ pub(crate) fn read_text(alloc: Global, span: &Span<'_>) -> Result<Text, NoMemory
     Ok(Text::from_string(characters))
 }
 
-/// The characters of a string, with its escapes read (RFC 8259 §7). Err is want of memory.
+/// The characters of a string, with its escapes read (RFC 8259 §7). Err: out of memory.
 pub fn text(alloc: Global, span: Span<'_>) -> Result<Text, NoMemory>
     requires { kind_of (part_of span).bytes ≡ Kind.Text }
     // It is what the string stands for by the standard.

@@ -1,4 +1,4 @@
-// From a whole text to its one value.
+//! From a whole text to its one value.
 ghost use Rattle.std.specs.Prelude.{◌≡◌, ◌+◌, ◌≤◌, ◌<◌, ◌^◌, length, drop, take, IfOk, IfErr, IsOk, IsUtf8, List, ℕ};
 ghost use Rattle.json_spans.specs.Grammar.{Tree};
 ghost use Rattle.json_spans.specs.Parts.{space_len, IsText, IsCut};
@@ -24,7 +24,7 @@ pub(crate) fn spaces_end(text: &[u8], at: usize) -> usize
     i
 }
 
-// The value's two places.
+/// The value's two places.
 fn scan(text: &[u8]) -> Result<(usize, usize), JsonFault>
     ensures exact { IfOk result (λ p. (p.0 ≡ space_len text.now) × (as_result (whole text.now) ≡ Ok p.1)) }
     ensures bounds { IfOk result (λ p. (p.0 ≤ p.1) × (p.1 ≤ length text.now) × (p.1 < 2 ^ 64)) }

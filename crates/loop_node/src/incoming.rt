@@ -1,4 +1,4 @@
-// The bytes that came and are not answered yet.
+//! The bytes that came and are not answered yet.
 ghost use Rattle.std.specs.Prelude.{◌≡◌, ℕ, ◌+◌, ◌<◌, ◌≤◌, false, List, [], ◌++◌, length, drop, OnOk, OnErr, vec_len};
 ghost use Rattle.loop_node.specs.declared.incoming.TheConstants.{MOST_BYTES};
 

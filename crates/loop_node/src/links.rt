@@ -1,4 +1,4 @@
-// Loop nodes behind one link.
+//! Loop nodes behind one link.
 ghost use Rattle.std.specs.Prelude.{◌≡◌, ◌≢◌, ℕ, ◌≤◌, ◌<◌, true, false, List, [], ◌∷◌, ◌++◌, length, MatchOption, Result, IfOk, IfErr, OnOk, OnErr, IsErrOf, IsTrue, vec_len};
 ghost use Rattle.std.specs.List.{list_all, list_any};
 ghost use Rattle.grid_outside.specs.Counts.{Rose};

@@ -1,4 +1,4 @@
-// The node, and what it answers.
+//! The node, and what it answers.
 ghost use Rattle.std.specs.Prelude.{◌≡◌, ◌≢◌, ℕ, ◌+◌, ◌<◌, ◌≤◌, ◌^◌, true, List, [], ◌∷◌, ◌++◌, length, take, drop, Option, Some, None, MatchOption, IfOk, IfErr, OnErr, OnOk, IsTrue, vec_len};
 ghost use Rattle.std.specs.List.{list_all};
 ghost use Rattle.loop_node.specs.Paths.{set_url, new_session as start_session, delete_session, get_url, unknown_command, unknown_method};
@@ -150,7 +150,7 @@ impl LoopNode {
         self.number = number;
     }
 
-    /// The reply to a request. Err is want of memory, also where 2^64 - 1 sessions were created.
+    /// The reply to a request. Err: out of memory, also where 2^64 - 1 sessions were created.
     pub fn answer(
         &mut self,
         alloc: Global,

@@ -1,4 +1,4 @@
-// What a request asks for.
+//! What a request asks for.
 ghost use Rattle.std.specs.Prelude.{◌≡◌, MatchOption, None, Some};
 ghost use Rattle.loop_node.specs.Paths.{behind as behind_text, up_to as up_to_first, from_first, path_of_id, path_behind, path_of_text, path_of as path_in, path_told, asked_at, asked_of, asked_told};
 

@@ -1,4 +1,4 @@
-// What the body of a request says.
+//! What the body of a request says.
 ghost use Rattle.std.specs.Prelude.{◌≡◌, List, Option, IfOk};
 ghost use Rattle.json_spans.specs.Span.{part_of};
 ghost use Rattle.caps_merge.specs.Placed.{Placed, Member};

@@ -1,4 +1,4 @@
-// The replies that are written.
+//! The replies that are written.
 ghost use Rattle.std.specs.Prelude.{◌≡◌, ◌∷◌, ◌++◌, [], IfOk};
 ghost use Rattle.http.specs.StatusCode.{IsStatusCode};
 ghost use Rattle.loop_node.specs.Replies.{json_reply, success, failure};

@@ -40,7 +40,7 @@ pub fn serve_node<L: Link>(
     ensures later { Later
         (told_by L.given L.taken L.ends L.read_faults L.write_faults link.old)
         (told_by L.given L.taken L.ends L.read_faults L.write_faults link.new) }
-    // Each fault has its count; want of memory is free.
+    // Each fault has its count; out of memory has none.
     ensures err { IfErr result (λ why. Blames why
         (told_by L.given L.taken L.ends L.read_faults L.write_faults link.old)
         (told_by L.given L.taken L.ends L.read_faults L.write_faults link.new)) }

@@ -1,4 +1,4 @@
-// Writing to a client.
+//! Writing to a client.
 ghost use Rattle.std.specs.Prelude.{◌≡◌, ℕ, ◌≤◌, ◌<◌, ◌++◌, List, [], length, take, true, IfOk, IfErr, OnOk, OnErr};
 ghost use Rattle.http_frames.specs.Frames.{Request, closes};
 ghost use Rattle.httparse.specs.Grammar.{RequestHead};

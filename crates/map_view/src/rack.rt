@@ -40,7 +40,7 @@ fn comes_before<'x>(one: &'x [u8], other: &'x [u8]) -> bool
     Ord::cmp(&one, &other).is_lt()
 }
 
-// Puts the row at a place that was free, or at a new one.
+/// Puts the row at a place that was free, or at a new one.
 fn place_for(rows: &mut Vec<Row>, free: &mut Vec<u32>, row: Row) -> u32
     requires room { vec_capacity rows.old ≡ 65_536 }
     requires few { length free.old.items ≡ 0 → length rows.old.items < 65_536 }

@@ -125,7 +125,7 @@ abbrev pub OfEach : Carry → (Reservation → Place → List Step → Type 0) �
 OfEach carry P = (r : Reservation) (place : Place) (steps : List Step) →
     Stands carry r place steps → P r place steps
 
--- where a start begins: with its exchange, or, where that could not be written for want of memory,
+-- where a start begins: with its exchange, or, where there was no memory to write that,
 -- by giving up
 abbrev pub IsFirst : Place → Type 0
 IsFirst at_start = Unit {0}

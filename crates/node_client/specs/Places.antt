@@ -149,7 +149,7 @@ pub data Moves (r : Reservation) : Place → CarryAnswer → Place → Type 0 wh
       Moves r (at_fail w) (answers.Failed f) (at_end ends.NotBound)
   was_freed : (c : Closing) → Moves r (at_free c) answers.Freed (at_end ends.NotBound)
 
--- the start is being given up for want of memory
+-- the start is being given up as out of memory
 abbrev pub gives_up_at : Place → Bool
 gives_up_at (at_fail w) = is_lack w
 gives_up_at place = false

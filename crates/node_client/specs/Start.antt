@@ -55,7 +55,7 @@ pub data Binds (r : Reservation) (session : List ℕ) (caps : List Cap) : List S
   lacks : {steps : List Step} (at : ℕ) → Returns r session steps →
       Binds r session caps (Called (Call.bind r session caps) at None ∷ steps)
 
--- why a start fails after what came of its exchange; want of memory may come also where a reply is
+-- why a start fails after what came of its exchange; out of memory may come also where a reply is
 -- read
 pub data FailsAfter : Came → FailWhy → Type 0 where
   unreachable : FailsAfter (Err fault.Unreachable) why.Unreachable
@@ -70,7 +70,7 @@ pub data FailsAfter : Came → FailWhy → Type 0 where
 
 -- The node is asked for a session with the capabilities that are wanted. One that its reply names
 -- is bound, else the start is given up. The exchange is left out where its request could not be
--- written for want of memory.
+-- written, as there was no memory.
 pub data Start (r : Reservation) : List Step → Type 0 where
   unwritten : {steps : List Step} → Fails r why.NoMemory steps → Start r steps
   fails : {steps : List Step} (came : Came) (w : FailWhy) → FailsAfter came w → Fails r w steps →

@@ -8,7 +8,7 @@ use Rattle.grid_outside.specs.declared.exchange.Ask.{Ask}
 use Rattle.grid_outside.specs.declared.exchange.ExchangeFault.TheVariants as fault
 use Rattle.grid_outside.specs.Exchanges.{Came}
 
--- a call of the hub at a moment, with its reply or, for want of memory, none; one that found the
+-- a call of the hub at a moment, with its reply or, out of memory, none; one that found the
 -- hub spent; an exchange with the node at an address; a pause of so many milliseconds
 pub data Step : Type 0 where
   Called : (call : Call) (at : ℕ) (reply : Option Reply) → Step
@@ -20,7 +20,7 @@ abbrev pub is_lack : FailWhy → Bool
 is_lack why.NoMemory = true
 is_lack w = false
 
--- a call that gives up a start for want of memory
+-- a call that gives up a start as out of memory
 abbrev pub gives_up : Call → Bool
 gives_up (Call.fail r w) = is_lack w
 gives_up call = false
@@ -35,7 +35,7 @@ abbrev pub call_lacks : Call → Option Reply → Bool
 call_lacks call None = true
 call_lacks call (Some reply) = gives_up call
 
--- a step that met want of memory; a start that is given up for want of it goes on after that also
+-- a step that was out of memory; a start that is given up as out of it goes on after that also
 -- where the hub is spent
 abbrev pub step_lacks : Step → Bool
 step_lacks (Called call at reply) = call_lacks call reply
@@ -43,7 +43,7 @@ step_lacks (Spent call at) = gives_up call
 step_lacks (Exchanged address ask came) = lacked came
 step_lacks (Paused ms) = false
 
--- some step met want of memory
+-- some step was out of memory
 abbrev pub met_want : List Step → Bool
 met_want steps = list_any step_lacks steps
 

@@ -111,7 +111,7 @@ impl Carry {
         }
     }
 
-    /// Whether it went on after want of memory: before its bind, in a bind, or in an exchange that
+    /// Whether it went on after it was out of memory: before its bind, in a bind, or in an exchange that
     /// ends a session.
     pub fn short(&self) -> bool
         ensures { OfEach self.now (λ r place steps. result ≡ (met_want steps || gives_up_at place)) }
@@ -215,7 +215,7 @@ impl Carry {
         }
     }
 
-    // What came of the request for a session.
+    /// What came of the request for a session.
     fn answered(&mut self, reservation: Reservation, came: Result<Reply, ExchangeFault>)
         ensures { Answered self.old.short reservation came self.new }
     {
@@ -250,7 +250,7 @@ impl Carry {
         }
     }
 
-    // The hub does not keep the session.
+    /// The hub does not keep the session.
     fn close(&mut self, closing: Closing)
         ensures { Closed self.old.short closing self.new }
     {

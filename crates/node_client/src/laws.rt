@@ -1,4 +1,4 @@
-//! What the definitions of a start say.
+//! What the definitions of a start say. The functions do nothing: their contracts are the laws.
 ghost use Rattle.std.specs.Prelude.{◌≡◌, ℕ, ◌≤◌, List};
 ghost use Rattle.node_client.specs.Replies.{Said, Says};
 ghost use Rattle.node_client.specs.declared.carry.Carry.{Carry};
@@ -12,6 +12,7 @@ use json_spans::{a_text_is_read_one_way, a_text_is_refused_one_way};
 pub fn replies_say_one_thing()
     ensures { (status : ℕ) (body : List ℕ) (s t : Said) → Says status body s → Says status body t → s ≡ t }
 {
+    // Laws of the text below, which do nothing either.
     a_text_is_read_one_way();
     a_text_is_refused_one_way();
 }

@@ -1,5 +1,16 @@
 //! Starts of sessions at a node: a decision core that says what it wants, and is told what came of
 //! that.
+//!
+//! Choices that concern this crate alone:
+//!
+//! - `CarryWant::Bind`, `Fail` and `Freed` have no payload; `take_bind`, `take_fail` and `take_closing` hand the call
+//!   out. A want that lends from the core and owns memory besides gets no generated proof. `Carry::next` takes
+//!   `&self`, since nothing changes in it.
+//! - `short` of a start is told already while a failure out of memory is about to be asked for; at the end it is a
+//!   function of the steps.
+//! - The request that ends a session is written in place (137 bytes), so it takes no memory. An exchange that answers
+//!   out of memory is a step though it was not made. Where reading a reply finds no memory, the start fails out of
+//!   memory after the exchange with that reply.
 #![tactic(auto)]
 
 mod carry;

@@ -1,3 +1,4 @@
+//! The table of nodes.
 ghost use Rattle.std.specs.Prelude.{◌≡◌, ◌+◌, ℕ, [], true, false, ◌&&◌, not, if◌then◌else◌, min, IsOk, OnOk, OnErr, Some, option_map, length, slice_get, find};
 ghost use Rattle.std.specs.Option.{option_copied};
 ghost use Rattle.grid_types.specs.declared.entry.Change.TheVariants as change;

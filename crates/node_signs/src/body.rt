@@ -1,4 +1,4 @@
-// The registration as JSON.
+//! The registration as JSON.
 ghost use Rattle.std.specs.Prelude.{◌≡◌, ◌++◌, IfOk, OnOk, map, string_bytes};
 ghost use Rattle.std.specs.List.{join_with_byte};
 ghost use Rattle.grid_types.specs.Capabilities.{json_string, written_caps};
@@ -40,7 +40,7 @@ fn push_json(alloc: Global, text: &mut String, content: &str) -> Result<(), NoMe
     Ok(())
 }
 
-// An address is of visible ASCII characters.
+/// An address is of visible ASCII characters.
 fn address_text(address: &NodeAddress) -> &str
     ensures { result.now ≡ address.now }
 {
@@ -70,7 +70,7 @@ fn push_groups(alloc: Global, text: &mut String, groups: &[SlotGroup]) -> Result
     Ok(())
 }
 
-// A comma, unless the item is the first.
+/// A comma, unless the item is the first.
 fn push_comma(text: &mut String, index: usize) -> Result<(), NoMemory>
     ensures { OnOk result (string_bytes text.new ≡ string_bytes text.old ++ comma index) }
 {

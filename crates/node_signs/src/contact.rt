@@ -1,4 +1,4 @@
-// What came of a contact with a hub or a driver, for whoever is told of it.
+//! What came of a contact with a hub or a driver, for whoever is told of it.
 ghost use Rattle.std.specs.Prelude.{◌≡◌};
 ghost use Rattle.node_signs.specs.Signs.{contact_of};
 
@@ -16,7 +16,7 @@ pub enum Contact {
 }
 
 impl Contact {
-    /// None is want of memory, in which the exchange was not made.
+    /// None: out of memory, in which the exchange was not made.
     pub fn of(came: &Result<Reply, ExchangeFault>) -> Option<Contact>
         ensures { result ≡ contact_of came.now }
     {

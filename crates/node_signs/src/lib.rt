@@ -10,6 +10,3 @@ pub use body::registration_body;
 pub use contact::Contact;
 pub use number::number_told;
 pub use signs::{Beat, SERVED, register, send_beat};
-
-#[cfg(test)]
-mod tests;

@@ -1,4 +1,4 @@
-// The number of a node in the answer to its registration.
+//! The number of a node in the answer to its registration.
 ghost use Rattle.std.specs.Prelude.{◌≡◌, ◌≢◌, ◌<◌, ◌^◌, ◌++◌, List, ℕ, MatchOption, decimal};
 ghost use Rattle.node_signs.specs.Signs.{registered_bytes};
 

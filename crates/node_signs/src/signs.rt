@@ -1,4 +1,4 @@
-// The two exchanges of a node with the hub.
+//! The two exchanges of a node with the hub.
 ghost use Rattle.std.specs.Prelude.{◌≡◌, OnOk};
 ghost use Rattle.grid_outside.specs.declared.exchange.Reply.TheVariants as reply_of;
 ghost use Rattle.grid_outside.specs.Exchanges.{Came};
@@ -105,7 +105,7 @@ fn told<N: NodeLink>(
     taken(&came)
 }
 
-/// Tells the hub that the node of this number is alive. Err is want of memory, in which the hub was not told.
+/// Tells the hub that the node of this number is alive. Err: out of memory, in which the hub was not told.
 pub fn send_beat<N: NodeLink>(
     alloc: Global,
     nodes: &mut N,

@@ -12,6 +12,3 @@ mod words;
 pub use laws::words_say_one_play;
 pub use play::{PlayNode, PlayNodes, PlayWords, WordsFault};
 pub use words::{read_play, read_simulate};
-
-#[cfg(test)]
-mod tests;

@@ -1,4 +1,4 @@
-// A node's id as its number.
+//! A node's id as its number.
 ghost use Rattle.std.specs.Prelude.{◌≡◌, ◌≢◌, ◌<◌, ◌^◌, ℕ, MatchOption, decimal};
 
 use grid_types::NodeNo;
@@ -16,7 +16,7 @@ pub fn node_number(id: &[u8]) -> Option<NodeNo>
     }
 }
 
-// What is parsed may have a sign and zeros before its digits, so it is written again.
+/// What is parsed may have a sign and zeros before its digits, so it is written again.
 fn number_of(text: &str) -> Option<NodeNo>
     ensures { MatchOption result ((n : ℕ) → n < 2 ^ 32 → text.now ≢ decimal n) (λ n. text.now ≡ decimal n) }
 {

@@ -1,4 +1,5 @@
-// The rows and the methods of the table.
+//! The rows and the methods of the table.
+
 /// The rows of the table of paths.
 #[derive(Clone, Copy, Debug, PartialEq, Eq)]
 pub enum Place {

@@ -1,4 +1,5 @@
-// What a request asks for, and why it has no route.
+//! What a request asks for, and why it has no route.
+
 /// What a request asks for. Its slices are slices of the target.
 #[derive(Clone, Copy, Debug, PartialEq, Eq)]
 pub enum Routed<'a> {

@@ -1,4 +1,4 @@
-// From a request's method and target to its route.
+//! From a request's method and target to its route.
 ghost use Rattle.std.specs.Prelude.{◌≡◌, ◌≢◌, Ok, Err, IfOk, IfErr, None, Some, option_map};
 ghost use Rattle.router_core.specs.Routes.{route_told, route_of, place_of as place_in};
 ghost use Rattle.router_core.specs.Rows.{rows};
@@ -19,7 +19,7 @@ pub struct Router {
 }
 
 impl Router {
-    /// The table with all its rows. Err is want of memory.
+    /// The table with all its rows. Err: out of memory.
     pub fn new(alloc: Global) -> Result<Router, NoMemory> {
         match routes(alloc) {
             Ok(paths) => Ok(Router { paths }),
@@ -44,7 +44,7 @@ impl Router {
         }
     }
 
-    // The row of the table that the path is in. A path that is no text is in none.
+    /// The row of the table that the path is in. A path that is no text is in none.
     fn place_of(&self, path: &[u8]) -> Option<Place>
         ensures { result ≡ option_map (λ f. f.0) (place_in path.now) }
     {

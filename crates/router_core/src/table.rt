@@ -1,4 +1,4 @@
-// The table of paths: its rows, and what stands at them.
+//! The table of paths: its rows, and what stands at them.
 ghost use Rattle.std.specs.Prelude.{◌≡◌, IfOk, option_map, drop};
 ghost use Rattle.matchit.specs.Seek.{first};
 ghost use Rattle.router_core.specs.Routes.{route_told, asked as asked_at, method_named};
@@ -52,7 +52,7 @@ pub(crate) fn id(place: Place, path: &[u8]) -> &[u8]
     }
 }
 
-// The part of the path that begins at a place, empty past the end.
+/// The part of the path that begins at a place, empty past the end.
 fn part_behind(path: &[u8], start: usize) -> &[u8]
     ensures { result.now ≡ first_part (drop start path.now) }
 {

@@ -1,5 +1,5 @@
-// A door whose links, nodes and clocks wait for one another, so that a hub that does one thing after the
-// other does not end well with it. Each wait gives up after ten seconds.
+//! A door whose links, nodes and clocks wait for one another, so that a hub that does one thing after the
+//! other does not end well with it. Each wait gives up after ten seconds.
 ghost use Rattle.std.specs.Prelude.{◌≡◌, ℕ, ◌-◌, ◌^◌, ◌<◌, ◌≤◌, IfSome, IsTrue, None, length};
 ghost use Rattle.grid_outside.specs.Exchanges.{is_within};
 
@@ -101,7 +101,7 @@ impl<'a> HeldClock<'a> {
     }
 }
 
-// Waits for what the pause waits for.
+/// Waits for what the pause waits for.
 fn hold(rt: &HostRuntime, shared: &Shared, role: Role, is_first: bool) {
     match role {
         Role::FirstWorker | Role::SecondWorker => {
@@ -158,7 +158,7 @@ impl<'a> HeldNodes<'a> {
     }
 }
 
-// The session that the role's node gives, once both workers have asked for one.
+/// The session that the role's node gives, once both workers have asked for one.
 fn session_for(rt: &HostRuntime, shared: &Shared, role: Role) -> Option<&'static [u8]> {
     let (asked, session) = match role {
         Role::FirstWorker => (&shared.first_starts, FIRST_SESSION),
@@ -301,7 +301,7 @@ impl<'a> HeldDoor<'a> {
     }
 }
 
-// The order of what a hub with two workers takes from its door.
+/// The order of what a hub with two workers takes from its door.
 fn role_of(place: u32) -> Role {
     match place {
         0 => Role::FirstWorker,

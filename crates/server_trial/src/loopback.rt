@@ -1,4 +1,4 @@
-// A hub, a node and a client over TCP in one process.
+//! A hub, a node and a client over TCP in one process.
 use crate::tests::words;
 use grid_node::node_main;
 use grid_sockets::TcpDoor;
@@ -23,7 +23,7 @@ fn contains(bytes: &[u8], part: &[u8]) -> bool {
     !part.is_empty() && bytes.windows(part.len()).any(|piece| piece == part)
 }
 
-// Asks again and again, until the answer has this part, at most so many times.
+/// Asks again and again, until the answer has this part, at most so many times.
 fn is_told(
     rt: &HostRuntime,
     stream: &mut TcpStream,
@@ -43,7 +43,7 @@ fn is_told(
     Ok(false)
 }
 
-// A connection to the hub, once it listens.
+/// A connection to the hub, once it listens.
 fn connected(rt: &HostRuntime, port: u16) -> Option<TcpStream> {
     for _ in 0..1_000 {
         if let Ok(stream) = TcpStream::connect(rt, (Ipv4Addr::LOCALHOST, port)) {
@@ -54,7 +54,7 @@ fn connected(rt: &HostRuntime, port: u16) -> Option<TcpStream> {
     None
 }
 
-// Goes through one session on one connection, and says whether each answer was as it should be.
+/// Goes through one session on one connection, and says whether each answer was as it should be.
 fn one_session(rt: &HostRuntime, port: u16) -> Option<bool> {
     let mut stream = connected(rt, port)?;
     let is_ready = is_told(rt, &mut stream, STATUS, b"\"ready\":true", 1_000).ok()?;
@@ -65,14 +65,14 @@ fn one_session(rt: &HostRuntime, port: u16) -> Option<bool> {
     Some(is_ready && is_created && is_relayed && is_ended)
 }
 
-// Two ports that are free now.
+/// Two ports that are free now.
 fn free_ports(rt: &HostRuntime) -> io::Result<(u16, u16)> {
     let one = TcpListener::bind(rt, (Ipv4Addr::LOCALHOST, 0))?;
     let other = TcpListener::bind(rt, (Ipv4Addr::LOCALHOST, 0))?;
     Ok((one.local_addr()?.port(), other.local_addr()?.port()))
 }
 
-// The hub takes the links of the node and of the client, the node the three that the session needs.
+/// The hub takes the links of the node and of the client, the node the three that the session needs.
 #[test]
 fn a_session_goes_through_hub_and_node(rt: HostRuntime) -> Result<(), Fail> {
     let alloc = rt.alloc();

@@ -1,4 +1,4 @@
-// Two workers of a crew, of which each starts a session only once both were asked for.
+//! Two workers of a crew, of which each starts a session only once both were asked for.
 ghost use Rattle.std.specs.Prelude.{◌≡◌, true, IfOk, IfSome};
 ghost use Rattle.grid_types.specs.Permitted.{is_well_sized};
 ghost use Rattle.hub_cell.specs.Passes.{IsOf, knows, spares_of};
@@ -18,7 +18,7 @@ use std::sync::atomic::Ordering;
 use std::test::Fail;
 use std::thread::Threads;
 
-// The capabilities of Chrome.
+/// The capabilities of Chrome.
 fn chrome(alloc: Global) -> Result<Caps, NoMemory> {
     let mut caps = Caps::new(alloc);
     let cap = Cap {
@@ -31,7 +31,7 @@ fn chrome(alloc: Global) -> Result<Caps, NoMemory> {
     }
 }
 
-// A node with two slots of it.
+/// A node with two slots of it.
 fn chrome_node(alloc: Global) -> Result<Registration, NoMemory>
     ensures { IfOk result (λ r. is_well_sized r ≡ true) }
 {
@@ -52,7 +52,7 @@ fn chrome_node(alloc: Global) -> Result<Registration, NoMemory>
     })
 }
 
-// Who waits for a session.
+/// Who waits for a session.
 #[derive(Drop)]
 struct Client {
     pass: Pass,
@@ -89,7 +89,7 @@ fn tool<'a>(rt: HostRuntime, shared: &'a Shared, role: Role) -> Tool<HeldNodes<'
     }
 }
 
-// Whether two requests have a session each, after one turn of each worker.
+/// Whether two requests have a session each, after one turn of each worker.
 fn both_start<R: Threads + Wait + Sync>(
     rt: &R,
     alloc: Global,

@@ -1,4 +1,4 @@
-// A hub without workers, whose node falls silent.
+//! A hub without workers, whose node falls silent.
 ghost use Rattle.std.specs.Prelude.{◌≡◌, ℕ, ◌≤◌, None, length};
 
 use crate::held::{HeldNodes, REGISTRATION, Role, Shared, give};
@@ -117,7 +117,7 @@ impl<'a> Door for TickingDoor<'a> {
     }
 }
 
-// The last status is one without the node, which only the ticker lets go.
+/// The last status is one without the node, which only the ticker lets go.
 #[test]
 fn a_silent_node_is_let_go(rt: HostRuntime) -> Result<(), Fail> {
     let alloc = rt.alloc();

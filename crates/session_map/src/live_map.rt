@@ -1,3 +1,4 @@
+//! The table of live sessions.
 ghost use Rattle.std.specs.Prelude.{◌≡◌, ℕ, List, [], IsOk, OnOk, OnErr, not, nat_eq, nat_lt, nat_le, option_map, unwrap_or, map, filter, ◌-◌, min};
 ghost use Rattle.std.specs.List.{reduce};
 ghost use Rattle.grid_types.specs.declared.entry.Change.TheVariants as change;

@@ -1,3 +1,4 @@
+//! Session ids in the order of their bytes.
 ghost use Rattle.std.specs.Prelude.{◌≡◌, Some, nat_eq, refl};
 ghost use Rattle.std.specs.Ordering.{nat_cmp};
 ghost use Rattle.std.specs.Cmp.{partial_equiv_from_equiv};

@@ -89,7 +89,7 @@ pub record UnderWay {N : Type 0} (gives : N → List ℕ → Ask → Came → N 
   pub went : Went gives old steps new
 
 -- There are steps by which the world went on, and they are a start of the reservation. It ended as
--- the hub answered, and it is short where a step met want of memory.
+-- the hub answered, and it is short where a step was out of memory.
 pub record Carried {N : Type 0} (gives : N → List ℕ → Ask → Came → N → Type 0) (r : Reservation)
     (old : World N) (end : CarryEnd × Bool) (new : World N) : Type 0 where
   pub steps : List Step

@@ -1,3 +1,4 @@
+//! Worked starts at nodes in memory.
 ghost use Rattle.std.specs.Prelude.{◌≡◌, true, IfOk};
 ghost use Rattle.grid_types.specs.Permitted.{is_well_sized};
 ghost use Rattle.hub_core.specs.HubView.{past};
@@ -185,7 +186,7 @@ const ROWS: [Row; 15] = [
     },
 ];
 
-// A node with one slot of the browser `chrome`.
+/// A node with one slot of the browser `chrome`.
 fn chrome_node(alloc: Global, name: &str) -> Result<Registration, NoMemory>
     ensures { IfOk result (λ r. is_well_sized r ≡ true) }
 {
@@ -261,7 +262,7 @@ fn hub_of(alloc: Global, row: &Row) -> Result<LocalHub, NoMemory> {
     Ok(hub)
 }
 
-// One poll: Ok where the request waits on, Err with its outcome.
+/// One poll: Ok where the request waits on, Err with its outcome.
 fn round(
     alloc: Global,
     ticket: Ticket,
@@ -357,7 +358,7 @@ fn str_of(bytes: &[u8]) -> &str {
     std::str::from_utf8(bytes).unwrap_or("")
 }
 
-// What the nodes were asked.
+/// What the nodes were asked.
 fn push_asks(told: &mut String, nodes: &MemNodes) -> Result<(), NoMemory> {
     for exchange in nodes.made() {
         told.push_str(str_of(exchange.ask.method.as_bytes()))?;
@@ -388,7 +389,7 @@ fn told_by(alloc: Global, row: &Row) -> Result<String, NoMemory> {
     Ok(told)
 }
 
-// What becomes of requests by what the nodes reply, and what the nodes are asked.
+/// What becomes of requests by what the nodes reply, and what the nodes are asked.
 #[test]
 fn replies_decide(rt: HostRuntime) -> Result<(), Fail> {
     let alloc = rt.alloc();

@@ -16,9 +16,10 @@ impl<V: Stands> TableRule<Option<V>, Doing<V>, Start<V>> for Turns {
     ghost first = { λ key. starting key.origin.value key.first };
 }
 
+/// What a pass acts by on the two words and the slot.
 pub type Place<V> = Seat<Option<V>, Doing<V>>;
 
-// A load of TICKET. It alone raises a count of spent looks.
+/// A load of TICKET. It alone raises a count of spent looks.
 pub(crate) struct LookAtTicket;
 
 impl<V> Play<Option<V>, Doing<V>> for LookAtTicket {
@@ -27,7 +28,7 @@ impl<V> Play<Option<V>, Doing<V>> for LookAtTicket {
     ghost then = { looked };
 }
 
-// An exchange of TICKET, from the number that was looked at to one more.
+/// An exchange of TICKET, from the number that was looked at to one more.
 pub(crate) struct Draw;
 
 impl<V> Play<Option<V>, Doing<V>> for Draw {
@@ -36,7 +37,7 @@ impl<V> Play<Option<V>, Doing<V>> for Draw {
     ghost then = { drawn };
 }
 
-// A load of SERVING. Where it finds the seat's ticket, the seat takes the slot and has seen the whole history.
+/// A load of SERVING. Where it finds the seat's ticket, the seat takes the slot and has seen the whole history.
 pub(crate) struct LookAtServing;
 
 impl<V: Stands> Play<Option<V>, Doing<V>> for LookAtServing {
@@ -45,7 +46,7 @@ impl<V: Stands> Play<Option<V>, Doing<V>> for LookAtServing {
     ghost then = { served V.stands V.mark };
 }
 
-// The load of SERVING at which the slot comes home and the turn's entries are noted.
+/// The load of SERVING at which the slot comes home and the turn's entries are noted.
 pub(crate) struct Note<E> {
     entries: PhantomData<E>,
 }
@@ -56,7 +57,7 @@ impl<V, E: Made> Play<Option<V>, Doing<V>> for Note<E> {
     ghost then = { noted E.entries };
 }
 
-// SERVING goes up by 1: the entries that were noted join the history.
+/// SERVING goes up by 1: the entries that were noted join the history.
 pub(crate) struct Raise;
 
 impl<V> Play<Option<V>, Doing<V>> for Raise {
@@ -65,7 +66,7 @@ impl<V> Play<Option<V>, Doing<V>> for Raise {
     ghost then = { raised };
 }
 
-// A new pass is split off in a turn.
+/// A new pass is split off in a turn.
 pub(crate) struct Part;
 
 impl<V> Split<Doing<V>> for Part {
@@ -76,7 +77,7 @@ impl<V> Split<Doing<V>> for Part {
     ghost right = { newborn };
 }
 
-// One pass takes another in.
+/// One pass takes another in.
 pub(crate) struct Glue;
 
 impl<V> Join<Doing<V>> for Glue {
@@ -87,7 +88,7 @@ impl<V> Join<Doing<V>> for Glue {
     ghost spent = { gone };
 }
 
-// A load of SERVING after a join, which tells that both lists begin what was kept.
+/// A load of SERVING after a join, which tells that both lists begin what was kept.
 pub(crate) struct Settle;
 
 impl<V> Play<Option<V>, Doing<V>> for Settle {
@@ -96,7 +97,7 @@ impl<V> Play<Option<V>, Doing<V>> for Settle {
     ghost then = { settled };
 }
 
-// A turn that made no entries.
+/// A turn that made no entries.
 pub(crate) struct Nothing;
 
 impl Made for Nothing {

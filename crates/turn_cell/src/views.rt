@@ -6,8 +6,11 @@ use std::snapshot::Snapshot;
 
 /// What is kept of a pass that a join has ended.
 pub struct Ended {
+    /// The caller of its entries.
     pub number: u64,
+    /// Its own entries.
     pub mine: LinkedList<Entry>,
+    /// The length of the history at each of its turns.
     pub points: LinkedList<u64>,
 }
 

@@ -9,7 +9,7 @@ use std::marker::Brand;
 use std::sync::Wait;
 use turn_cell::{Made, Pass, Spent, Turn, TurnCell};
 
-// The part of `add` that has the value. Its caller picks the entries by the history that the pass has seen then.
+/// The part of `add` that has the value. Its caller picks the entries by the history that the pass has seen then.
 fn add_in<E: Made>(
     cell: &TurnCell<Counter>,
     mut turn: Turn<Counter>,
@@ -29,7 +29,7 @@ fn add_in<E: Made>(
     count
 }
 
-/// Adds 1 in a turn of its own, and answers the count then.
+/// Adds 1 in a turn of its own, and answers the count then. Err: no turn is left.
 pub fn add<R: Wait>(
     rt: &R,
     cell: &TurnCell<Counter>,
@@ -44,7 +44,7 @@ pub fn add<R: Wait>(
     Ok(add_in::<Brand>(cell, turn, pass))
 }
 
-/// Adds as often as `times`.
+/// Adds as often as `times`. Err: no turn is left.
 pub fn adds<R: Wait>(
     rt: &R,
     cell: &TurnCell<Counter>,

@@ -25,7 +25,7 @@ fn another<R: Wait>(
     cell.split(turn, pass).ok()
 }
 
-// Joins a pass that has made as many entries as `count`.
+/// Joins a pass that has made as many entries as `count`.
 fn rejoin(cell: &TurnCell<Counter>, pass: &mut Pass<Counter>, other: Pass<Counter>, count: u64)
     requires own { IsOf cell.now pass.old × IsFree pass.old × EachHas count (view_of pass.old).ended }
     requires other { HasMade cell.now count other }
@@ -69,7 +69,7 @@ fn rejoin_all(
     Ok(())
 }
 
-// Each pass adds as often as `times`, in a thread of its own.
+/// Each pass adds as often as `times`, in a thread of its own.
 fn all_add<R: Threads + Wait + Sync>(
     rt: &R,
     cell: &TurnCell<Counter>,

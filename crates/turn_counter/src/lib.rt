@@ -5,8 +5,6 @@ mod adding;
 mod counter;
 mod crew;
 mod linear;
-#[cfg(test)]
-mod tests;
 
 pub use adding::{add, adds, find_spent};
 pub use counter::Counter;

@@ -1,4 +1,4 @@
-// The bodies of responses, and of the request that starts a session.
+//! The bodies of responses, and of the request that starts a session.
 ghost use Rattle.std.specs.Prelude.{◌≡◌, IfOk};
 ghost use Rattle.wd_bodies.specs.Bodies.{value_bytes, error_bytes, created_bytes, start_bytes};
 

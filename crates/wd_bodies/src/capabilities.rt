@@ -1,4 +1,4 @@
-// Capabilities as JSON.
+//! Capabilities as JSON.
 ghost use Rattle.std.specs.Prelude.{◌≡◌, ◌++◌, ◌∷◌, if◌then◌else◌, not, bytes_eq, IfOk, OnOk, map, string_bytes};
 ghost use Rattle.std.specs.List.{join_with_byte};
 ghost use Rattle.grid_types.specs.Capabilities.{json_string, written_value, written_member, written_caps};
@@ -54,14 +54,14 @@ fn push_for_nodes(alloc: Global, text: &mut String, members: &[Cap]) -> Result<(
     Ok(())
 }
 
-// A request's own time to wait is for the hub alone.
+/// A request's own time to wait is for the hub alone.
 fn is_for_nodes(member: &Cap) -> bool
     ensures { result ≡ is_for_nodes member.now }
 {
     member.name.as_str() != QUEUE_TIME_NAME
 }
 
-// The member, behind a comma where it is not the first.
+/// The member, behind a comma where it is not the first.
 fn push_after(
     alloc: Global,
     text: &mut String,
@@ -101,7 +101,7 @@ fn push_value(alloc: Global, text: &mut String, value: &CapValue) -> Result<(), 
 pub fn json_text(alloc: Global, text: &str) -> Result<Text, NoMemory>
     ensures { IfOk result (λ t. t ≡ json_string text.now) }
 {
-    // A text is never refused, so an error is want of memory.
+    // A text is never refused, so an error is out of memory.
     match serde_json::to_string(alloc, &text) {
         Ok(written) => Ok(Text::from_string(written)),
         Err(_) => Err(NoMemory),

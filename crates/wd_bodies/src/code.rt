@@ -1,4 +1,4 @@
-// The error codes, and the statuses that go with them.
+//! The error codes, and the statuses that go with them.
 ghost use Rattle.std.specs.Prelude.{◌≡◌, [], unwrap_or};
 ghost use Rattle.http.specs.StatusCode.{IsStatusCode, reason_phrase};
 ghost use Rattle.wd_bodies.specs.Codes.{code_text, code_status};
@@ -8,11 +8,17 @@ use http::StatusCode;
 /// The error codes that the hub answers with (WebDriver §6.6).
 #[derive(Clone, Copy, Debug, PartialEq, Eq)]
 pub enum ErrorCode {
+    /// Status 400.
     InvalidArgument,
+    /// Status 404.
     InvalidSessionId,
+    /// Status 404.
     UnknownCommand,
+    /// Status 405.
     UnknownMethod,
+    /// Status 500.
     SessionNotCreated,
+    /// Status 500.
     UnknownError,
 }
 

@@ -1,4 +1,11 @@
 //! The JSON bodies that the hub writes, byte for byte, and the statuses that go with them.
+//!
+//! Choices that concern this crate alone:
+//!
+//! - `phrase_of` is the phrase of a status by `http`, `json_text` a text as a JSON string, for the crates above.
+//! - What is written is read again by `document` of the crate `json`, which reads 128 levels; `serde_json` reads 127.
+//!   A raw value counts as the JSON that is read from it alone.
+//! - `start_body` leaves out each member named `grid:queueTimeout`, and makes no second list for that.
 #![tactic(auto)]
 
 mod bodies;
@@ -13,6 +20,3 @@ pub use laws::{
     capabilities_are_read_again, created_are_read_again, errors_are_read_again,
     starts_are_read_again, values_are_read_again,
 };
-
-#[cfg(test)]
-mod tests;

@@ -1,4 +1,4 @@
-// A request from its body to its response, by the calls of the grid.
+//! A request from its body to its response, by the calls of the grid.
 use super::Grid;
 use caps_merge::process;
 use grid_outside::Clock;
@@ -11,8 +11,8 @@ const SAFARI: &[u8] =
 const TIMED_OUT: &[u8] =
     b"HTTP/1.1 500 Internal Server Error\r\nContent-Type: application/json; charset=utf-8\r\nCache-Control: no-cache\r\nContent-Length: 89\r\n\r\n{\"value\":{\"error\":\"session not created\",\"message\":\"request 1 timed out\",\"stacktrace\":\"\"}}";
 
-// No slot is a safari's. The request is polled each 15 milliseconds: at 1,995 it waits on, and at 2,010 the 2,000 that it
-// asks for are over.
+/// No slot is a safari's. The request is polled each 15 milliseconds: at 1,995 it waits on, and at 2,010 the 2,000 that it
+/// asks for are over.
 #[test]
 fn a_request_waits_as_long_as_it_asks(rt: HostRuntime) -> Result<(), Fail> {
     let alloc = rt.alloc();

@@ -101,7 +101,7 @@ pub(crate) fn one_item(alloc: Global, item: Item) -> Result<Items, NoMemory>
     }
 }
 
-// Makes the call's items pending, where there is memory. A call that publishes nothing needs none.
+/// Makes the call's items pending, where there is memory. A call that publishes nothing needs none.
 fn prepare<Q: Announces>(grid: &mut Grid, question: &Q, alloc: Global) -> Result<(), NoMemory>
     requires none { pending grid.old.map ≡ [] }
     ensures keeps { CoreKeeps grid.old.core grid.new.core }
@@ -121,7 +121,7 @@ fn prepare<Q: Announces>(grid: &mut Grid, question: &Q, alloc: Global) -> Result
     }
 }
 
-// The part of a call that has the value. Its caller picks the entries by the history that the pass has seen then.
+/// The part of a call that has the value. Its caller picks the entries by the history that the pass has seen then.
 fn announce_there<Q: Announces, E: Made, R: Wait>(
     rt: &R,
     alloc: Global,
@@ -171,6 +171,7 @@ impl SharedHub {
         ensures back { IfOk result (λ a. Q.back question a) }
         ensures unanswered { IfErr result (IsUnanswered self.now (knows pass.old) question (Q.call question) (Q.lacks question) (knows pass.new)) }
     {
+        // For the proof alone: the caller's other tokens stay good.
         token_laws();
         match self.cell.enter(rt, &mut pass.inner) {
             Ok(turn) => {

@@ -15,7 +15,7 @@ use crate::tokens::Reservation;
 use grid_types::{Caps, Moment, NoMemory, NodeNo, ReqNo, SessionId};
 use reservation::SlotUse;
 
-// Adds the sessions that run in the slots.
+/// Adds the sessions that run in the slots.
 fn push_busy(uses: &[SlotUse], sessions: &mut Sessions) -> Result<(), NoMemory>
     ensures { OnOk result (sessions.new ≡ sessions.old ++ busy_in uses.now) }
 {
@@ -87,7 +87,7 @@ impl HubCore {
         Ok(sessions)
     }
 
-    // Adds the sessions that run on a node.
+    /// Adds the sessions that run on a node.
     fn push_sessions(&self, node: NodeNo, sessions: &mut Sessions) -> Result<(), NoMemory>
         ensures { OnOk result (CoreTells self.now (λ H. is_registered H node ≡ true → sessions.new ≡ sessions.old ++ sessions_on H node)) }
     {

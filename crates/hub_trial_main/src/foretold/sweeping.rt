@@ -16,7 +16,7 @@ fn add_lapses(foretold: &mut Foretold, scene: &Scene<'_>) -> Result<(), Fault> {
     Ok(())
 }
 
-// A node that lapses is not suspected.
+/// A node that lapses is not suspected.
 fn add_suspicions(foretold: &mut Foretold, scene: &Scene<'_>) -> Result<(), Fault> {
     for place in 0..scene.journal.len() {
         let Some(node) = silent_node(scene.config, scene.journal, scene.at, place) else {
@@ -53,7 +53,7 @@ fn lapses(foretold: &Foretold, number: NodeNo) -> bool {
     found
 }
 
-// A node that drains and lapses is not taken off.
+/// A node that drains and lapses is not taken off.
 fn add_removals(foretold: &mut Foretold, scene: &Scene<'_>) -> Result<(), Fault> {
     for place in 0..scene.journal.len() {
         let Some(node) = drained_node(scene.journal, place) else {

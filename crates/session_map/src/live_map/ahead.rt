@@ -37,7 +37,7 @@ impl LiveMap {
         self.put_placeholder(session, place)
     }
 
-    // A session that is live needs no placeholder: its place is written over.
+    /// A session that is live needs no placeholder: its place is written over.
     fn put_placeholder(&mut self, session: SessionId, place: Place) -> Result<(), NoMemory>
         requires { self.old.placeholder ≡ None }
         ensures keeps { Keeps Stands self.old self.new }
@@ -54,7 +54,7 @@ impl LiveMap {
         Ok(())
     }
 
-    // Whether only a placeholder stands for the session.
+    /// Whether only a placeholder stands for the session.
     pub(super) fn is_placeholder(&self, session: &SessionId) -> bool
         ensures { result ≡ is_placeholder self.now.placeholder session.now }
     {
@@ -64,7 +64,7 @@ impl LiveMap {
         }
     }
 
-    // The session has its place now, and no placeholder.
+    /// The session has its place now, and no placeholder.
     pub(super) fn fill_placeholder(&mut self, session: &SessionId)
         ensures { FillsPlaceholder self.old self.new session.now }
     {

@@ -1,0 +1,9 @@
+//! Plays of the hub of one caller, calls with memory refused in turn, and the plain definitions on a journal.
+#![tactic(auto)]
+
+#[cfg(test)]
+mod definitions;
+#[cfg(test)]
+mod plays;
+#[cfg(test)]
+mod refused_memory;

@@ -1,4 +1,0 @@
-use Rattle.hub_clients.proofs.tests.find_joined.Goals as goal
-
-pub join-requires : goal.join-requires
-join-requires g c = record { own = (c.start.ensures, c.in-Ok.ensures.split.0) }

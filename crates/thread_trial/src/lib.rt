@@ -1,0 +1,7 @@
+//! Threads that share a hub, and threads that share a count.
+#![tactic(auto)]
+
+#[cfg(test)]
+mod clients;
+#[cfg(test)]
+mod counting;
