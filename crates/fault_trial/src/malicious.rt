@@ -79,8 +79,8 @@ type Row = (
     Result<End, FrameFault>,
 );
 
-const ROWS: [Row; 33] = [
-    // 65,536 bytes without an end: in the target, in a header, as empty lines; and one byte fewer.
+const ROWS: [Row; 32] = [
+    // 65,536 bytes without an end: in the target and in a header; and one byte fewer.
     (
         &[Raw(b"GET /"), Many(b"a", 65_531)],
         &[HEAD_TOO_LONG],
@@ -95,12 +95,6 @@ const ROWS: [Row; 33] = [
     ),
     (
         &[Raw(b"GET / HTTP/1.1\r\nA: "), Many(b"a", 65_517)],
-        &[HEAD_TOO_LONG],
-        0,
-        Err(HeadTooLong),
-    ),
-    (
-        &[Many(b"\r\n", 32_768)],
         &[HEAD_TOO_LONG],
         0,
         Err(HeadTooLong),
