@@ -9,7 +9,7 @@ ghost use Rattle.server_words.specs.declared.options.WordsFault.TheVariants as f
 use crate::options::{
     WordsFault, found, matched, number, number_option, reason_of, texts, truth, truth_option,
 };
-use clap::{ArgMatches, Command};
+use clap::{ArgMatches, Command, Error};
 use grid_types::{HubConfig, Text};
 use std::alloc::{AllocError, Global};
 
@@ -95,11 +95,16 @@ pub fn hub_words(alloc: Global, words: &[Text]) -> Result<HubWords, WordsFault>
     Ok(told(&matches))
 }
 
+/// What `clap` says of the words, where it doesn't take them.
+fn refusal(alloc: Global, words: &[Text]) -> Result<Option<Error>, AllocError> {
+    let command = command(alloc)?;
+    let texts = texts(alloc, words)?;
+    Ok(matched(command, texts.as_slice()).err())
+}
+
 /// What is wrong with words that the hub's program refuses, in one line for whoever called it. None where
 /// they are taken, and where there is no memory to say it.
 pub fn hub_reason(alloc: Global, words: &[Text]) -> Option<String> {
-    let command = command(alloc).ok()?;
-    let texts = texts(alloc, words).ok()?;
-    let error = matched(command, texts.as_slice()).err()?;
+    let error = refusal(alloc, words).ok()??;
     reason_of(alloc, &error)
 }

@@ -9,7 +9,7 @@ ghost use Rattle.server_words.specs.declared.options.WordsFault.TheVariants as f
 use crate::options::{
     WordsFault, found, matched, number, number_option, reason_of, text, text_option, texts,
 };
-use clap::{ArgMatches, Command};
+use clap::{ArgMatches, Command, Error};
 use grid_types::{NodeAddress, Text};
 use std::alloc::{AllocError, Global};
 
@@ -83,19 +83,24 @@ pub fn node_words(alloc: Global, words: &[Text]) -> Result<NodeWords, WordsFault
     told(alloc, &matches)
 }
 
+/// What `clap` says of the words, where it doesn't take them.
+fn refusal(alloc: Global, words: &[Text]) -> Result<Option<Error>, AllocError> {
+    let command = command(alloc)?;
+    let texts = texts(alloc, words)?;
+    Ok(matched(command, texts.as_slice()).err())
+}
+
 /// What is wrong with words that the node's program refuses, in one line for whoever called it. None where
 /// they are taken, and where there is no memory to say it.
 pub fn node_reason(alloc: Global, words: &[Text]) -> Option<String> {
-    let command = command(alloc).ok()?;
-    let texts = texts(alloc, words).ok()?;
-    match matched(command, texts.as_slice()) {
+    match refusal(alloc, words).ok()? {
+        Some(error) => reason_of(alloc, &error),
         // What the command takes and the program doesn't is the hub's address.
-        Ok(_) => match node_words(alloc, words) {
+        None => match node_words(alloc, words) {
             Err(WordsFault::Refused) => {
                 String::from_str(alloc, "the value of --hub is no address").ok()
             }
             _ => None,
         },
-        Err(error) => reason_of(alloc, &error),
     }
 }
