@@ -1,3 +1,4 @@
+//! Why a reader stopped before a whole value.
 ghost use Rattle.std.specs.Prelude.{◌≡◌};
 ghost use Rattle.grid_journal.specs.Forms.{with_more};
 

@@ -1,4 +1,4 @@
-// One step of a simulation.
+//! One step of a simulation.
 ghost use Rattle.std.specs.Prelude.{◌≡◌, ◌<◌, ◌≤◌, ◌+◌, ◌^◌, OnOk};
 ghost use Rattle.grid_simulate.specs.World.{world_of};
 ghost use Rattle.grid_simulate.specs.Actions.{action_of, Acts};

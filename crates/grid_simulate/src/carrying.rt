@@ -1,4 +1,4 @@
-// A driver of one start: it asks what is wanted, does that, and tells what came of it.
+//! A driver of one start: it asks what is wanted, does that, and tells what came of it.
 ghost use Rattle.std.specs.Prelude.{◌≡◌, ◌<◌, true, IfNone, None};
 ghost use Rattle.grid_types.specs.Lists.{or_else};
 ghost use Rattle.hub_core.specs.HubView.{past};

@@ -1,4 +1,4 @@
-// The nodes of a simulation.
+//! The nodes of a simulation.
 ghost use Rattle.std.specs.Prelude.{◌≡◌, ◌<◌, ◌≤◌, ◌+◌, ◌++◌, ◌∷◌, [], ℕ, true, codes, decimal, IfOk, OnOk};
 ghost use Rattle.grid_types.specs.Config.{IsValid};
 ghost use Rattle.grid_types.specs.Calls.{Call};

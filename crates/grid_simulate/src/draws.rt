@@ -1,4 +1,4 @@
-// The generator.
+//! The generator.
 ghost use Rattle.std.specs.Prelude.{◌≡◌, ◌<◌, length, vec_len};
 ghost use Rattle.grid_simulate.specs.Draws.{next_number, drawn_by};
 

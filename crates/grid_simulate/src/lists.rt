@@ -1,4 +1,4 @@
-// Lists of which elements are taken out and put in.
+//! Lists of which elements are taken out and put in.
 ghost use Rattle.std.specs.Prelude.{◌≡◌, ◌<◌, ◌≤◌, ◌+◌, ◌&&◌, ◌++◌, ◌∷◌, [], vec_len, vec_capacity, Some};
 ghost use Rattle.std.specs.List.{slice_get, remove, insert};
 

@@ -1,4 +1,4 @@
-// What a simulation has.
+//! What a simulation has.
 use grid_types::{ReqNo, SessionId};
 use hub_core::{LocalHub, Reservation, Ticket};
 use loop_node::LoopNodes;

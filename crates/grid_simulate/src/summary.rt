@@ -1,4 +1,4 @@
-// What a summary counts.
+//! What a summary counts.
 ghost use Rattle.std.specs.Prelude.{◌≡◌, ◌≤◌, length, IfOk};
 ghost use Rattle.grid_types.specs.History.{history_of};
 ghost use Rattle.grid_types.specs.Bindings.{binding_told};

@@ -1,4 +1,4 @@
-// The summary as text.
+//! The summary as text.
 ghost use Rattle.std.specs.Prelude.{◌≡◌, ◌++◌, IfOk, OnOk, string_bytes};
 ghost use Rattle.grid_simulate.specs.Texts.{line, summary_text};
 

@@ -1,4 +1,4 @@
-// The simulation of a number.
+//! The simulation of a number.
 ghost use Rattle.std.specs.Prelude.{◌≡◌, ◌<◌, ◌≤◌, [], IfOk, OnOk, vec_len};
 ghost use Rattle.hub_core.specs.HubView.{past};
 ghost use Rattle.grid_simulate.specs.World.{world_of};

@@ -1,4 +1,4 @@
-// A simulation's summary, written to an output.
+//! A simulation's summary, written to an output.
 ghost use Rattle.std.specs.Prelude.{◌≡◌, ◌⊎◌, ◌≤◌, IfOk, OnOk, OnErr};
 ghost use Rattle.grid_outside.specs.Counts.{Rose, HasCause};
 ghost use Rattle.grid_outside.specs.Told.{Gains};

@@ -1,4 +1,4 @@
-// The word that describes a node.
+//! The word that describes a node.
 ghost use Rattle.std.specs.Prelude.{◌≡◌, ◌++◌, ℕ, List, true, IfSome, IfNone};
 ghost use Rattle.std.specs.List.{list_all};
 ghost use Rattle.play_words.specs.Node.{is_name_byte, begins_with_letter, is_browser, is_version_byte, is_version, lacks, SaysVersion, SaysCount, IsNode};

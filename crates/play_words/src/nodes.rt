@@ -1,4 +1,4 @@
-// The words of the nodes, two for each.
+//! The words of the nodes, two for each.
 ghost use Rattle.std.specs.Prelude.{◌≡◌, ◌++◌, List, OnOk, IfOk, IfErr};
 ghost use Rattle.play_words.specs.declared.play.PlayNode.{PlayNode};
 ghost use Rattle.play_words.specs.Words.{SaysNode, SaysNodes};

@@ -1,4 +1,4 @@
-// Decimal numbers without a sign or a leading zero.
+//! Decimal numbers without a sign or a leading zero.
 ghost use Rattle.std.specs.Prelude.{◌≡◌, ◌≤◌, ◌<◌, ◌^◌, ℕ, IfSome, IfNone, decimal};
 
 use itoa::Buffer;

@@ -1,4 +1,4 @@
-// The options at the end of the words, each with its value.
+//! The options at the end of the words, each with its value.
 ghost use Rattle.std.specs.Prelude.{◌≡◌, ℕ, Bool, IfSome, IfNone};
 ghost use Rattle.std.specs.Option.{option_copied};
 ghost use Rattle.play_words.specs.Options.{IsSplit, SaysRefusal, SaysTimeout};

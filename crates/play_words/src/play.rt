@@ -1,4 +1,4 @@
-// What the words of a play say.
+//! What the words of a play say.
 ghost use Rattle.std.specs.Prelude.{◌≡◌, ◌++◌, ◌∷◌, [], OnOk, OnErr, IfErr};
 
 use grid_types::{HubConfig, NoMemory, Text};

@@ -1,4 +1,4 @@
-// All words.
+//! All words.
 ghost use Rattle.std.specs.Prelude.{◌≡◌, ◌<◌, ◌^◌, ℕ, List, IfOk, IfErr, IfSome, IfNone};
 ghost use Rattle.std.specs.Option.{option_copied};
 ghost use Rattle.grid_types.specs.declared.config.HubConfig.{HubConfig};

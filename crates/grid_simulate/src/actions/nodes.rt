@@ -1,4 +1,4 @@
-// The nodes' signs of life, and the clearing of the queue.
+//! The nodes' signs of life, and the clearing of the queue.
 ghost use Rattle.std.specs.Prelude.{◌≡◌, OnOk};
 ghost use Rattle.grid_types.specs.Calls.{Call};
 ghost use Rattle.grid_types.specs.Lists.{numbers_from};

@@ -1,4 +1,4 @@
-// Requests: they are queued, dispatched and polled.
+//! Requests: they are queued, dispatched and polled.
 ghost use Rattle.std.specs.Prelude.{◌≡◌, ◌<◌, IfOk, OnOk, vec_len, vec_capacity};
 ghost use Rattle.std.specs.List.{slice_get};
 ghost use Rattle.grid_types.specs.Calls.{Call};

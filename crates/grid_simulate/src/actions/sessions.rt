@@ -1,4 +1,4 @@
-// Sessions that end, by a call or by their time.
+//! Sessions that end, by a call or by their time.
 ghost use Rattle.std.specs.Prelude.{◌≡◌, ◌<◌, IfOk, OnOk, vec_len};
 ghost use Rattle.std.specs.List.{slice_get};
 ghost use Rattle.grid_types.specs.Calls.{Call};

@@ -1,4 +1,4 @@
-// Starts of reservations.
+//! Starts of reservations.
 ghost use Rattle.std.specs.Prelude.{◌≡◌, ◌<◌, ◌++◌, [], true, false, ◌&&◌, OnOk, option_to_list, vec_len, vec_capacity};
 ghost use Rattle.std.specs.List.{slice_get, remove};
 ghost use Rattle.grid_simulate.specs.World.{world_of};
