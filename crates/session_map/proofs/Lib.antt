@@ -5,3 +5,4 @@ pub mod Steps
 pub mod Idle
 pub mod Others
 pub mod Placeholders
+mod Runs

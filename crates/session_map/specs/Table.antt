@@ -1,12 +1,13 @@
 -- What it is for a table of live sessions to stand for a history.
-use Rattle.std.specs.Prelude.{◌≡◌, ℕ, ◌-◌, ◌≤◌, Bool, false, cond, IsSome, nat_eq, nat_le, min, List, Option, None, Some, option_map, map, filter}
+use Rattle.std.specs.Prelude.{◌≡◌, ℕ, ◌-◌, ◌≤◌, Bool, true, false, cond, IsSome, nat_eq, nat_le, min, List, Option, None, Some, option_map, map, filter}
 use Rattle.std.specs.List.{reduce}
 use Rattle.std.specs.BTreeMap as tree
 use Rattle.indexmap.specs.IndexMap.{get, spare, IsUnique}
 use Rattle.grid_types.specs.declared.entry.Entry.{Entry}
 use Rattle.grid_types.specs.declared.names.Moment.{Moment}
 use Rattle.grid_types.specs.Lists.{kept}
-use Rattle.grid_types.specs.Bindings.{Running, bound_of}
+use Rattle.grid_types.specs.declared.names.SlotId.{SlotId}
+use Rattle.grid_types.specs.Bindings.{Running, bound_of, bound_slot}
 use Rattle.grid_types.specs.Sessions.{is_live, live, active, live_bindings}
 use Rattle.session_map.specs.Names.{session_cmp, session_eq}
 use Rattle.session_map.specs.declared.live_map.LiveSession.{LiveSession}
@@ -35,6 +36,12 @@ is_placeholder (Some x) s = session_eq x s
 -- where the table finds a session. A placeholder is passed over
 abbrev pub place_in : LiveMap → List ℕ → Option Place
 place_in t s = cond (is_placeholder t.placeholder s) None (tree.get session_cmp t.places s)
+
+-- the binding is live, its session runs in the slot, and it was used last at the moment
+pub record RunsSince (H : List Entry) (b : ℕ) (slot : SlotId) (used : Moment) : Type 0 where
+  pub live_now : is_live H b ≡ true
+  pub runs_in : bound_slot H b ≡ Some slot
+  pub used_at : used.0 ≡ active H b
 
 -- no session was used last before `quiet_since`
 abbrev pub Quiet : LiveMap → Type 0

@@ -1,12 +1,12 @@
 //! The table of live sessions.
-ghost use Rattle.std.specs.Prelude.{◌≡◌, ℕ, List, [], IsOk, OnOk, OnErr, not, nat_eq, nat_lt, nat_le, option_map, unwrap_or, map, filter, ◌-◌, min};
+ghost use Rattle.std.specs.Prelude.{◌≡◌, ℕ, List, [], IsOk, OnOk, OnErr, false, MatchOption, not, nat_eq, nat_lt, nat_le, option_map, unwrap_or, map, filter, ◌-◌, min};
 ghost use Rattle.std.specs.List.{reduce};
 ghost use Rattle.grid_types.specs.declared.entry.Change.TheVariants as change;
 ghost use Rattle.grid_types.specs.Lists.{least};
 ghost use Rattle.grid_types.specs.Nodes.{address_of};
-ghost use Rattle.grid_types.specs.Sessions.{live, found_of};
+ghost use Rattle.grid_types.specs.Sessions.{is_live, live, found_of};
 ghost use Rattle.grid_types.specs.Tables.{Follows, FollowsGiven, Keeps, Tells};
-ghost use Rattle.session_map.specs.Table.{Stands, HasRoomFor, NotesUse, RemovesPlace, earliest_use, running, idle_bindings};
+ghost use Rattle.session_map.specs.Table.{Stands, HasRoomFor, NotesUse, RemovesPlace, RunsSince, earliest_use, running, session_row, idle_bindings};
 
 mod ahead;
 
@@ -167,6 +167,24 @@ impl LiveMap {
         ensures { Tells Stands self.now (λ H. result ≡ option_map (λ x. x.session) (running H binding)) }
     {
         Some(self.sessions.get(&binding)?.session)
+    }
+
+    /// What is kept under the binding.
+    fn row(&self, binding: ReqNo) -> Option<LiveSession>
+        ensures { Tells Stands self.now (λ H. result ≡ session_row H binding) }
+    {
+        Some(*self.sessions.get(&binding)?)
+    }
+
+    /// The slot that the binding's session runs in and the moment of its last use, while the binding is live. It takes no
+    /// memory.
+    pub fn run_of(&self, binding: ReqNo) -> Option<(SlotId, Moment)>
+        ensures { Tells Stands self.now (λ H. MatchOption result (is_live H binding ≡ false) (λ run. RunsSince H binding run.0 run.1)) }
+    {
+        match self.row(binding) {
+            Some(session) => Some((session.slot, session.active)),
+            None => None,
+        }
     }
 
     /// The least binding that has been idle for so many milliseconds. It takes no memory. Where some session may be
