@@ -3,7 +3,6 @@ use Rattle.std.proofs.Common.{◌≡◌, ◌∙◌, ℕ, Bool, true, false, cond
 use Rattle.std.specs.Prelude.{Option, None, Some, nat_lt, is_some}
 use Rattle.grid_types.specs.declared.entry.Entry.{Entry}
 use Rattle.grid_types.specs.declared.entry.Change.TheVariants as change
-use Rattle.grid_types.specs.declared.entry.EndCause.{EndCause}
 use Rattle.grid_types.specs.declared.entry.FailWhy.{FailWhy}
 use Rattle.grid_types.specs.declared.entry.FailWhy.TheVariants as why
 use Rattle.grid_types.specs.declared.names.Moment.{Moment}
@@ -13,14 +12,12 @@ use Rattle.grid_types.specs.Lists.{least}
 use Rattle.grid_types.specs.History.{clock}
 use Rattle.grid_types.specs.Nodes.{address_of, is_spent, is_base_up}
 use Rattle.grid_types.specs.Bindings.{Running, bound_of}
-use Rattle.grid_types.specs.Sessions.{live}
-use Rattle.grid_types.specs.Legal.{legal}
 use Rattle.grid_types.specs.Tables.{entry}
 use Rattle.grid_types.specs.Tokens.{Reservation, Closing, closing_of, reservation_of}
 use Rattle.grid_types.specs.Calls.{Call, Reply}
-use Rattle.grid_types.specs.HubAnswers.{hub, after_call, moment, drain_after_bind, is_binding, idle_bindings}
+use Rattle.grid_types.specs.HubAnswers.{moment, drain_after_bind, idle_bindings}
 use Rattle.grid_types.specs.LookupMap.{Item, put, removal, removal_of, published, changes}
-use Rattle.grid_types.proofs.MapLemmas.{running-live, live-running}
+use Rattle.grid_types.proofs.MapLemmas.{running-live}
 use Rattle.hub_core.specs.declared.hub.HubCore.{HubCore}
 use Rattle.hub_core.specs.declared.hub.sessions.Seat.{Seat}
 use Rattle.hub_core.specs.declared.hub.sessions.Idle.{Idle}
@@ -28,12 +25,10 @@ use Rattle.hub_core.specs.Answers.{IsExact}
 use Rattle.hub_core.specs.Serves.{MayCall}
 use Rattle.hub_core.specs.Starts.{refusal_of, refused_reply}
 use Rattle.hub_core.specs.Seats.{SeatTells, IdleTells, IsIdle, seated}
-use Rattle.session_map.specs.declared.live_map.LiveMap.{LiveMap}
-use Rattle.session_map.specs.Table as of_session
-use Rattle.grid_types.specs.Tables.{Keeps}
-use Rattle.hub_core.specs.CoreStands.{Stands, CoreKeeps, CoreTells, is_known}
-use Rattle.hub_core.specs.Ahead.{Publishes, BindsThere, RefusesThere, is_bound, put_of, removal_in}
+use Rattle.hub_core.specs.CoreStands.{Stands, CoreTells, is_known}
+use Rattle.hub_core.specs.Ahead.{Publishes, BindsThere, RefusesThere, is_bound, put_of}
 use Rattle.grid_types.specs.Requests.{place}
+use Rattle.hub_core.proofs.NoteLemmas.{IsRaised}
 use Rattle.hub_core.proofs.SilentLemmas.{AllSilent, silent-after}
 use Rattle.hub_core.proofs.BindLemmas.{bind-refused, bind-kept}
 use Rattle.hub_core.proofs.SettledLemmas.{reservation-known}
@@ -121,35 +116,17 @@ core-ending core x b seat tells = record {
       (removal-is H b (seated x b seat) (running-live core.config H x (seated x b seat) s.is_legal (tells.of H s)).0.bound);
 }
 
-pub core-not_expiring : (core : HubCore) (at : ℕ) (now : Moment) → CoreTells core (λ H. IdleTells core.config H now.0 None) → now.0 ≡ max at core.clock.0 → CoreTells core (λ H. (k : ℕ) → Publishes core.config H k Call.expire at [])
+pub core-not_expiring : (core : HubCore) (at : ℕ) (now : Moment) → CoreTells core (λ H. IdleTells core.config H now.0 None) → IsRaised core at now → CoreTells core (λ H. (k : ℕ) → Publishes core.config H k Call.expire at [])
 core-not_expiring core at now tells e = record {
   of = λ H s k. by_history core.config H k Call.expire at _ H []
-      (expire-none core.config H k at (subst (λ (m : ℕ). least nat_lt (idle_bindings core.config H m) ≡ None) (e ∙ ap (max at) s.tells_clock) (tells.of H s))) refl;
+      (expire-none core.config H k at (subst (λ (m : ℕ). least nat_lt (idle_bindings core.config H m) ≡ None) (e.of core.config H s.tables_stand s.is_legal) (tells.of H s))) refl;
 }
 
-pub core-expiring : (core : HubCore) (at : ℕ) (now : Moment) (idle : Idle) → CoreTells core (λ H. IdleTells core.config H now.0 (Some idle)) → now.0 ≡ max at core.clock.0 →
+pub core-expiring : (core : HubCore) (at : ℕ) (now : Moment) (idle : Idle) → CoreTells core (λ H. IdleTells core.config H now.0 (Some idle)) → IsRaised core at now →
     CoreTells core (λ H. (k : ℕ) → Publishes core.config H k Call.expire at (removal idle.session ∷ []))
 core-expiring core at now idle tells e = record {
   of = λ H s k.
-      let here : IsIdle core.config H (max at (clock H)) idle = subst (λ (m : ℕ). IsIdle core.config H m idle) (e ∙ ap (max at) s.tells_clock) (tells.of H s) in
+      let here : IsIdle core.config H (max at (clock H)) idle = subst (λ (m : ℕ). IsIdle core.config H m idle) (e.of core.config H s.tables_stand s.is_legal) (tells.of H s) in
       by_history core.config H k Call.expire at _ _ (removal idle.session ∷ []) (expire-expired core.config H k at idle s.is_legal here)
       (removal-is H idle.binding (seated idle.session idle.binding idle.seat) (running-live core.config H idle.session (seated idle.session idle.binding idle.seat) s.is_legal here.runs).0.bound);
-}
-
--- the table of sessions stands for what it stood for
-pub sessions-kept : (core : HubCore) (sessions : LiveMap) → Keeps of_session.Stands core.sessions sessions → CoreKeeps core (record core { sessions = sessions })
-sessions-kept core sessions k = record {
-  same_config = refl;
-  still = λ H s. record {
-    nodes_stand = s.nodes_stand;
-    slots_stand = s.slots_stand;
-    requests_stand = s.requests_stand;
-    sessions_stand = k.still H s.sessions_stand;
-    counts_nodes = s.counts_nodes;
-    counts_requests = s.counts_requests;
-    tells_clock = s.tells_clock;
-    is_valid = s.is_valid;
-    is_legal = s.is_legal;
-    searched = s.searched;
-  };
 }

@@ -1,6 +1,6 @@
 -- What a sweep publishes: the removals of the sessions on the nodes that lapse, node after node.
-use Rattle.std.proofs.Common.{◌≡◌, ◌≢◌, ◌∙◌, ℕ, ◌+◌, ◌≤◌, ◌<◌, Bool, true, false, cond, ◌&&◌, max, List, [], ◌∷◌, ◌++◌, map, filter, refl, subst, sym, ap, arith, append_assoc, append-nil}
-use Rattle.std.specs.Prelude.{Option, None, Some, nat_eq, nat_le, find, filter_map}
+use Rattle.std.proofs.Common.{◌≡◌, ◌∙◌, ℕ, ◌+◌, Bool, true, false, cond, ◌&&◌, max, List, [], ◌∷◌, ◌++◌, map, filter, refl, subst, sym, ap, arith, append_assoc, append-nil}
+use Rattle.std.specs.Prelude.{None, Some, nat_eq, nat_le, find, filter_map}
 use Rattle.std.specs.List.{AllByRecursion, cons_option}
 use Rattle.std.specs.List.Sorted.{IsStrictlySortedBy}
 use Rattle.std.specs.Ordering.{nat_cmp}
@@ -13,13 +13,13 @@ use Rattle.grid_types.specs.declared.names.Moment.{Moment}
 use Rattle.grid_types.specs.declared.names.SlotId.{SlotId}
 use Rattle.grid_types.specs.declared.config.HubConfig.{HubConfig}
 use Rattle.grid_types.specs.History.{after, clock, nodes}
-use Rattle.grid_types.specs.Nodes.{is_registered, beat_of}
-use Rattle.grid_types.specs.Slots.{Holder, free, holder, is_busy, slots_of}
+use Rattle.grid_types.specs.Nodes.{is_registered}
+use Rattle.grid_types.specs.Slots.{Holder, holder, slots_of}
 use Rattle.grid_types.specs.Legal.{legal}
 use Rattle.grid_types.specs.Tables.{entry}
-use Rattle.grid_types.specs.Calls.{Call, Reply}
-use Rattle.grid_types.specs.HubAnswers.{hub, after_call, moment, lapsed_nodes, lapses, suspicions, time_outs, removals, swept}
-use Rattle.grid_types.specs.LookupMap.{Item, removal, session_in, sessions_on, published_by, published, changes}
+use Rattle.grid_types.specs.Calls.{Call}
+use Rattle.grid_types.specs.HubAnswers.{hub, after_call, moment, lapsed_nodes, lapses, suspicions, time_outs, removals}
+use Rattle.grid_types.specs.LookupMap.{Item, removal, session_in, sessions_on, published, changes}
 use Rattle.reservation.specs.declared.slot_use.SlotUse.{SlotUse}
 use Rattle.reservation.specs.Table.{holder_of}
 use Rattle.hub_core.specs.declared.hub.HubCore.{HubCore}

@@ -1,5 +1,5 @@
 -- Calls that publish nothing.
-use Rattle.std.proofs.Common.{◌≡◌, ◌∙◌, ℕ, Bool, true, false, cond, not, ◌&&◌, ◌||◌, max, ◌+◌, ◌-◌, ◌^◌, List, [], ◌∷◌, ◌++◌, map, length, refl, ap}
+use Rattle.std.proofs.Common.{◌≡◌, ◌∙◌, ℕ, Bool, true, false, cond, not, ◌&&◌, ◌||◌, max, ◌+◌, ◌-◌, ◌^◌, List, [], ◌∷◌, map, length, refl, ap}
 use Rattle.std.specs.Prelude.{Option, None, Some, nat_le, nat_lt, find}
 use Rattle.grid_types.specs.declared.entry.Entry.{Entry}
 use Rattle.grid_types.specs.declared.entry.Change.{Change}
@@ -17,8 +17,8 @@ use Rattle.grid_types.specs.Permitted.{is_named, is_supported, most_bytes, deadl
 use Rattle.grid_types.specs.Tables.{entry}
 use Rattle.grid_types.specs.Calls.{Call, Reply}
 use Rattle.grid_types.specs.HubAnswers.{Answer, hub, moment, says, makes, register_by, enqueued, polled, polled_open, dispatched, answer}
-use Rattle.grid_types.specs.LookupMap.{Item, published_by, published, changes}
-use Rattle.hub_core.specs.Ahead.{Publishes, is_quiet, QuietCallsPublishNothing}
+use Rattle.grid_types.specs.LookupMap.{published_by, published, changes}
+use Rattle.hub_core.specs.Ahead.{is_quiet, QuietCallsPublishNothing}
 
 -- changes that publish nothing
 abbrev pub IsSilent : Change → Type 0

@@ -9,7 +9,7 @@ use Rattle.grid_types.specs.HubAnswers.{hub, after_call}
 use Rattle.grid_types.specs.LookupMap.{Item, put, removal, session_in, sessions_on, published, changes}
 use Rattle.reservation.specs.declared.slot_use.SlotUse.{SlotUse}
 use Rattle.reservation.specs.Table.{holder_of}
-use Rattle.session_map.specs.Table as of_session
+use Rattle.hub_tables.specs.Tables as of_tables
 use Rattle.hub_core.specs.declared.hub.HubCore.{HubCore}
 use Rattle.hub_core.specs.declared.answers.Readied.{Readied}
 use Rattle.hub_core.specs.declared.answers.Readied.TheVariants as readied
@@ -20,7 +20,7 @@ Publishes c H caller call at items = changes (after_call c H caller call at) ≡
 
 -- there is room to bind the session
 abbrev pub HasRoomFor : HubCore → List ℕ → Type 0
-HasRoomFor core s = of_session.HasRoomFor core.sessions s
+HasRoomFor core s = of_tables.HasRoomFor core.tables s
 
 abbrev pub is_bound : Reply → Bool
 is_bound (Reply.bound b) = true

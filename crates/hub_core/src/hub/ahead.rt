@@ -46,7 +46,7 @@ impl HubCore {
         let request = reservation.request();
         let slot = reservation.slot();
         let address = reservation.address();
-        match self.sessions.ready(request, slot, *session, address) {
+        match self.tables.ready(request, slot, *session, address) {
             Ok(()) => Readied::Binds,
             Err(_) => Readied::Memory,
         }
@@ -66,7 +66,7 @@ impl HubCore {
     pub fn expiring(&self, at: Moment) -> Option<SessionId>
         ensures { CoreTells self.now (λ H. (caller : ℕ) → Publishes self.now.config H caller Call.expire at.0 (removal_in result)) }
     {
-        let now = self.raised(at);
+        let now = self.tables.raised(at);
         match self.next_idle(now) {
             Some(idle) => Some(idle.session),
             None => None,
@@ -77,10 +77,10 @@ impl HubCore {
     pub fn lapsing(&self, at: Moment) -> Result<Sessions, NoMemory>
         ensures { IfOk result (λ sessions. CoreTells self.now (λ H. (caller : ℕ) → Publishes self.now.config H caller Call.sweep at.0 (removals_of sessions))) }
     {
-        let now = self.raised(at);
+        let now = self.tables.raised(at);
         let mut sessions = Sessions::new(self.alloc);
         let mut from = 0;
-        while let Some(node) = self.next_lapsed(from, now) {
+        while let Some(node) = self.tables.next_lapsed(from, now, &self.config) {
             self.push_sessions(node, &mut sessions)?;
             from = u64::from(node) + 1;
         }
@@ -91,6 +91,6 @@ impl HubCore {
     fn push_sessions(&self, node: NodeNo, sessions: &mut Sessions) -> Result<(), NoMemory>
         ensures { OnOk result (CoreTells self.now (λ H. is_registered H node ≡ true → sessions.new ≡ sessions.old ++ sessions_on H node)) }
     {
-        push_busy(self.slots.uses(node), sessions)
+        push_busy(self.tables.uses(node), sessions)
     }
 }

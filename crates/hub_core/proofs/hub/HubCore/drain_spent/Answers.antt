@@ -1,9 +1,11 @@
+use Rattle.std.proofs.Common.{refl}
+use Rattle.hub_core.proofs.NoteLemmas.{noted}
 use Rattle.hub_core.proofs.CoreStartLemmas.{spent-not_up, spent-stays, spent-drains}
 use Rattle.hub_core.proofs.hub.HubCore.drain_spent.Goals as goal
 use Rattle.hub_core.proofs.hub.HubCore.drain_spent.Goals.{else-is_base_up-via-then-is_base_up+else-is_spent, else-is_base_up-via-else-is_base_up}
 
 pub returns-then-is_spent : goal.returns-then-is_spent
-returns-then-is_spent c = λ k. spent-drains _ k _ _ _ c.is_base_up.ensures _ c.is_spent.ensures c.if-is_base_up.true _ c.if-is_spent.true (c.note_draining.ensures k)
+returns-then-is_spent c = λ k. spent-drains _ k _ _ _ c.is_base_up.ensures _ c.is_spent.ensures c.if-is_base_up.true _ c.if-is_spent.true (noted refl (c.note_draining.ensures k))
 
 pub returns-else-is_base_up : goal.returns-else-is_base_up
 returns-else-is_base_up c =

@@ -1,4 +1,4 @@
-use Rattle.std.proofs.Common.{ℕ, ◌-◌, ◌^◌}
+use Rattle.std.proofs.Common.{◌-◌, ◌^◌}
 use Rattle.hub_core.specs.CoreStands.{CoreTells}
 use Rattle.hub_core.proofs.LapsingLemmas.{Comes}
 use Rattle.hub_core.proofs.hub.HubCore.lapsing.Given as goal

@@ -1,9 +1,4 @@
-use Rattle.std.proofs.Common.{◌≡◌, ◌++◌, List, ℕ}
 use Rattle.std.specs.Prelude.{Result, Ok, Err, OnOk}
-use Rattle.grid_types.specs.Nodes.{is_registered}
-use Rattle.grid_types.specs.LookupMap.{sessions_on}
-use Rattle.hub_core.specs.CoreStands.{CoreTells}
-use Rattle.hub_core.specs.Ahead.{busy_in}
 use Rattle.hub_core.proofs.LapsingLemmas.{on-node}
 use Rattle.hub_core.proofs.hub.HubCore.push_sessions.Goals as goal
 
@@ -13,4 +8,4 @@ on-ok (Err e) f h = tt
 
 pub returns : goal.returns
 returns c = on-ok c.push_busy.result
-    (λ e. on-node c.args.self.now c.args.node c.uses.result.now c.args.sessions.now c.push_busy.new.sessions (λ H s r. c.uses.ensures.of c.args.self.now.config H s.slots_stand s.is_legal r) e) c.push_busy.ensures
+    (λ e. on-node c.args.self.now c.args.node c.uses.result.now c.args.sessions.now c.push_busy.new.sessions (λ H s r. c.uses.ensures.of c.args.self.now.config H s.tables_stand s.is_legal r) e) c.push_busy.ensures

@@ -1,0 +1,8 @@
+use Rattle.std.proofs.Common.{refl}
+use Rattle.hub_tables.proofs.NoteLemmas.{given, noted, noted-kept, requests-stay}
+use Rattle.hub_tables.proofs.tables.HubTables.note_lapsed.Goals as goal
+
+pub returns-clause-noted : goal.returns-clause-noted
+returns-clause-noted c = λ k. noted-kept _ _ _ k _ (noted c.table_laws.ensures _ _ k _
+    (record { nodes = given (c.lapsed.ensures k); slots = given (c.lapsed-2.ensures k); requests = requests-stay c.table_laws.ensures _ k _ refl; sessions = given (c.lapsed-3.ensures k) })
+    (record { nodes = λ d H e l. e; requests = λ d H e l. e; clock = c.not_before-self.ensures; below = λ d H s l. refl; from = refl })) c.forget_unlisted.ensures.keeps

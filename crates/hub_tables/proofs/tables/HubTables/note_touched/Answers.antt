@@ -1,0 +1,8 @@
+use Rattle.std.proofs.Common.{refl}
+use Rattle.hub_tables.proofs.NoteLemmas.{given, noted, nodes-stay, slots-stay, requests-stay}
+use Rattle.hub_tables.proofs.tables.HubTables.note_touched.Goals as goal
+
+pub returns : goal.returns
+returns c = λ k. noted c.table_laws.ensures _ _ k _
+    (record { nodes = nodes-stay c.table_laws.ensures _ k _ refl; slots = slots-stay c.table_laws.ensures _ k _ refl; requests = requests-stay c.table_laws.ensures _ k _ refl; sessions = given (c.touched.ensures k) })
+    (record { nodes = λ d H e l. e; requests = λ d H e l. e; clock = c.not_before-self.ensures; below = λ d H s l. refl; from = refl })
