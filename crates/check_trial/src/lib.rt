@@ -1,0 +1,9 @@
+//! Trials of the check of a journal.
+#![tactic(auto)]
+
+#[cfg(test)]
+mod entries;
+#[cfg(test)]
+mod plays;
+#[cfg(test)]
+mod verdicts;

@@ -1,0 +1,80 @@
+-- Where a check stands, and how it goes on.
+use Rattle.std.specs.Prelude.{◌≡◌, ℕ, ◌+◌, ◌-◌, ◌*◌, ◌<◌, ◌≤◌, Bool, true, cond, List, ◌++◌, length, Option, None, Some}
+use Rattle.grid_types.specs.declared.config.HubConfig.{HubConfig}
+use Rattle.grid_types.specs.declared.entry.Entry.{Entry}
+use Rattle.grid_types.specs.Config.{IsValid}
+use Rattle.grid_outside.specs.Counts.{Rose}
+use Rattle.grid_outside.specs.Told.{Gains}
+use Rattle.grid_journal.specs.Spelled.{head_bytes, journal_bytes}
+use Rattle.grid_journal.specs.Fits.{ConfigFits}
+use Rattle.grid_check.specs.declared.feed.Feed.{Feed}
+use Rattle.grid_check.specs.declared.verdict.Verdict.{Verdict}
+use Rattle.grid_check.specs.declared.checking.Checking.{Checking}
+use Rattle.grid_check.specs.declared.checking.Opened.{Opened}
+use Rattle.grid_check.specs.declared.checking.Opened.TheVariants as opened
+use Rattle.grid_check.specs.Feeds.{waiting}
+use Rattle.grid_ledger.specs.LedgerStands.{Stands}
+use Rattle.grid_check.specs.Verdicts.{IsJournal, Says, most_bytes, tells_end}
+
+-- what a source tells: the bytes that it has given, and how often it has ended
+pub record Told : Type 0 where
+  pub given : Option (List ℕ)
+  pub ends : ℕ
+
+abbrev pub told : Option (List ℕ) → ℕ → Told
+told given ends = record { given = given; ends = ends }
+
+-- where the input has ended, its source said so
+abbrev pub EndWasTold : Told → Told → Feed → Type 0
+EndWasTold start now feed = feed.ended ≡ true → Rose start.ends now.ends
+
+-- since the start the source gave the journal of a legal history, for which the ledger stands, and the bytes that wait
+pub record HasRead (start now : Told) (checking : Checking) : Type 0 where
+  pub history : List Entry
+  pub bytes : List ℕ
+  pub gains : Gains start.given now.given bytes
+  pub journal : IsJournal checking.ledger.config history bytes (waiting checking.feed)
+  pub stands : Stands checking.ledger history
+  pub place : checking.feed.taken ≡ length (journal_bytes checking.ledger.config history)
+  pub count : checking.entries ≡ length history
+  pub few : checking.entries ≤ checking.feed.taken
+  pub ends_later : start.ends ≤ now.ends
+  pub end_told : EndWasTold start now checking.feed
+
+-- the verdict on what the source gave since the start
+pub record IsTold (start now : Told) (v : Verdict) : Type 0 where
+  pub bytes : List ℕ
+  pub gains : Gains start.given now.given bytes
+  pub says : Says v bytes
+  pub end_told : tells_end v ≡ true → Rose start.ends now.ends
+
+-- how a check goes on that has no verdict yet, or one
+abbrev pub Goes : Told → Told → Checking → Option Verdict → Type 0
+Goes start now checking None = HasRead start now checking
+Goes start now checking (Some v) = IsTold start now v
+
+-- whatever the start was, a check that stood so far goes on
+abbrev pub GoesOn : Told → Told → Checking → Checking → Option Verdict → Type 0
+GoesOn before now old new found = (start : Told) → HasRead start before old → Goes start now new found
+
+-- what is left to do: each byte that may come is read and taken off, and the end is told once
+abbrev pub left_of : Feed → ℕ
+left_of feed = 2 * (most_bytes - (feed.taken + length (waiting feed))) + length (waiting feed) + cond feed.ended 0 1
+
+-- less is left, where there is no verdict yet
+abbrev pub Lessens : Feed → Feed → Option Verdict → Type 0
+Lessens old new found = found ≡ None → left_of new < left_of old
+
+-- a head with a valid configuration was taken off, and what the source gave is the head and what waits
+pub record IsOpened (start now : Told) (feed : Feed) (c : HubConfig) : Type 0 where
+  pub config_fits : ConfigFits c
+  pub is_valid : IsValid c
+  pub gains : Gains start.given now.given (head_bytes c ++ waiting feed)
+  pub taken : feed.taken ≡ length (head_bytes c)
+  pub ends_later : start.ends ≤ now.ends
+  pub end_told : EndWasTold start now feed
+
+-- what is found at the front of the input
+abbrev pub Opens : Told → Told → Feed → Opened → Type 0
+Opens start now feed (opened.Config c) = IsOpened start now feed c
+Opens start now feed (opened.Ends v) = IsTold start now v

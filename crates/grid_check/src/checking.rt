@@ -1,0 +1,194 @@
+//! The check of a journal: its head, and then entry after entry.
+ghost use Rattle.std.specs.Prelude.{◌≡◌, ◌+◌, ◌<◌, ◌≤◌, ℕ, [], true, false, length, IfOk, IsErrOf};
+ghost use Rattle.grid_outside.specs.Counts.{Rose};
+ghost use Rattle.grid_journal.specs.EntryReads.{BeginsEntry, BeginsWithEntry, EntryRead};
+ghost use Rattle.grid_check.specs.Feeds.{waiting};
+ghost use Rattle.grid_check.specs.Verdicts.{IsVerdict, most_bytes, tells_end};
+ghost use Rattle.grid_check.specs.Checks.{Told, GoesOn, HasRead, IsTold, Lessens, Opens, told};
+
+use crate::feed::Feed;
+use crate::verdict::{CheckFault, Verdict};
+use grid_journal::{EntryStep, HEAD_BYTES, HeadStep, read_entry, read_head};
+use grid_ledger::GridLedger;
+use grid_outside::Source;
+use grid_types::{Entry, HubConfig, legal_is_safe};
+use std::alloc::Global;
+
+/// What is found at the front of the input.
+enum Opened {
+    /// A head with this configuration, which is valid.
+    Config(HubConfig),
+    /// No such head.
+    Ends(Verdict),
+}
+
+/// Takes the head off the front of the input.
+fn open<S: Source>(feed: &mut Feed, input: &mut S) -> Result<Opened, CheckFault>
+    requires nothing { waiting feed.old ≡ [] }
+    requires first { feed.old.taken ≡ 0 }
+    requires open { feed.old.ended ≡ false }
+    ensures opens { IfOk result (λ found. Opens (told (S.given input.old) (S.ends input.old)) (told (S.given input.new) (S.ends input.new)) feed.new found) }
+    ensures ends { S.ends input.old ≤ S.ends input.new }
+    ensures faults { S.faults input.old ≤ S.faults input.new }
+    ensures cause { IsErrOf result CheckFault.Read → Rose (S.faults input.old) (S.faults input.new) }
+{
+    'pieces: loop {
+        match read_head(feed.waiting()) {
+            HeadStep::Whole(config) => {
+                feed.take_off(HEAD_BYTES);
+                return Ok(Opened::Config(config));
+            }
+            HeadStep::NotJournal => return Ok(Opened::Ends(Verdict::NotJournal)),
+            HeadStep::More => {
+                if feed.has_ended() {
+                    return Ok(Opened::Ends(Verdict::Cut { at: 0 }));
+                }
+                feed.refill(input)?;
+            }
+        }
+    }
+}
+
+/// A check behind the head: the ledger of the entries so far, how many these are, and the input behind them.
+#[derive(Drop)]
+pub(crate) struct Checking {
+    ledger: GridLedger,
+    entries: u64,
+    feed: Feed,
+    alloc: Global,
+}
+
+impl Checking {
+    /// The input ends here.
+    fn end(&self) -> Verdict
+        requires ended { self.now.feed.ended ≡ true }
+        requires begins { BeginsEntry (waiting self.now.feed) }
+        requires room { self.now.feed.taken + length (waiting self.now.feed) < most_bytes }
+        ensures { (start now : Told) → HasRead start now self.now → IsTold start now result }
+    {
+        // For the proof alone: a legal history is safe.
+        legal_is_safe();
+        if self.feed.count() == 0 {
+            Verdict::Legal {
+                entries: self.entries,
+            }
+        } else {
+            Verdict::Cut {
+                at: self.feed.taken(),
+            }
+        }
+    }
+
+    /// Reads on where the bytes that wait are a part of an entry, or none.
+    fn read_on<S: Source>(&mut self, input: &mut S) -> Result<Option<Verdict>, CheckFault>
+        requires { BeginsEntry (waiting self.old.feed) }
+        ensures goes { IfOk result (λ found. GoesOn (told (S.given input.old) (S.ends input.old)) (told (S.given input.new) (S.ends input.new)) self.old self.new found) }
+        ensures less { IfOk result (λ found. Lessens self.old.feed self.new.feed found) }
+        ensures ends { S.ends input.old ≤ S.ends input.new }
+        ensures faults { S.faults input.old ≤ S.faults input.new }
+        ensures cause { IsErrOf result CheckFault.Read → Rose (S.faults input.old) (S.faults input.new) }
+    {
+        if self.feed.is_full() {
+            return Ok(Some(Verdict::Limit));
+        }
+        if self.feed.has_ended() {
+            return Ok(Some(self.end()));
+        }
+        self.feed.refill(input)?;
+        Ok(None)
+    }
+
+    /// Takes an entry of so many bytes off the front, where it is permitted.
+    fn take(&mut self, entry: Entry, len: usize) -> Result<Option<Verdict>, CheckFault>
+        requires { BeginsWithEntry (waiting self.old.feed) entry len }
+        ensures goes { IfOk result (λ found. (now : Told) → GoesOn now now self.old self.new found) }
+        ensures less { IfOk result (λ found. Lessens self.old.feed self.new.feed found) }
+        ensures lacks { IsErrOf result CheckFault.Read → ⊥ }
+    {
+        if !self.ledger.permits(entry.caller, &entry.change) {
+            return Ok(Some(Verdict::Illegal {
+                entry: self.entries,
+            }));
+        }
+        if self.ledger.note(entry.caller, entry.change).is_err() {
+            return Err(CheckFault::Memory);
+        }
+        self.feed.take_off(len);
+        self.entries = self.entries.saturating_add(1);
+        Ok(None)
+    }
+
+    /// Does what the bytes that wait call for.
+    fn follow<S: Source>(
+        &mut self,
+        step: EntryStep,
+        input: &mut S,
+    ) -> Result<Option<Verdict>, CheckFault>
+        requires { EntryRead (waiting self.old.feed) step }
+        ensures goes { IfOk result (λ found. GoesOn (told (S.given input.old) (S.ends input.old)) (told (S.given input.new) (S.ends input.new)) self.old self.new found) }
+        ensures less { IfOk result (λ found. Lessens self.old.feed self.new.feed found) }
+        ensures ends { S.ends input.old ≤ S.ends input.new }
+        ensures faults { S.faults input.old ≤ S.faults input.new }
+        ensures cause { IsErrOf result CheckFault.Read → Rose (S.faults input.old) (S.faults input.new) }
+    {
+        match step {
+            EntryStep::Whole(entry, len) => self.take(entry, len),
+            EntryStep::More => self.read_on(input),
+            EntryStep::Bad => Ok(Some(Verdict::Bad {
+                at: self.feed.taken(),
+            })),
+        }
+    }
+
+    /// Looks at the bytes that wait.
+    fn look<S: Source>(&mut self, input: &mut S) -> Result<Option<Verdict>, CheckFault>
+        ensures goes { IfOk result (λ found. GoesOn (told (S.given input.old) (S.ends input.old)) (told (S.given input.new) (S.ends input.new)) self.old self.new found) }
+        ensures less { IfOk result (λ found. Lessens self.old.feed self.new.feed found) }
+        ensures ends { S.ends input.old ≤ S.ends input.new }
+        ensures faults { S.faults input.old ≤ S.faults input.new }
+        ensures cause { IsErrOf result CheckFault.Read → Rose (S.faults input.old) (S.faults input.new) }
+    {
+        match read_entry(self.alloc, self.feed.waiting()) {
+            Ok(step) => self.follow(step, input),
+            Err(_) => Err(CheckFault::Memory),
+        }
+    }
+
+    /// Goes on to the verdict.
+    fn run<S: Source>(&mut self, input: &mut S) -> Result<Verdict, CheckFault>
+        ensures goes { IfOk result (λ v. (start : Told) → HasRead start (told (S.given input.old) (S.ends input.old)) self.old → IsTold start (told (S.given input.new) (S.ends input.new)) v) }
+        ensures faults { S.faults input.old ≤ S.faults input.new }
+        ensures cause { IsErrOf result CheckFault.Read → Rose (S.faults input.old) (S.faults input.new) }
+    {
+        'entries: loop {
+            if let Some(verdict) = self.look(input)? {
+                return Ok(verdict);
+            }
+        }
+    }
+}
+
+/// Reads the input up to a verdict on it: whether it is the journal of a legal history, or what is wrong with it first.
+///
+/// # Errors
+/// `Read` where a read failed, `Memory` for want of memory.
+pub fn check<S: Source>(alloc: Global, input: &mut S) -> Result<Verdict, CheckFault>
+    ensures says { IfOk result (λ v. IsVerdict (S.given input.old) (S.given input.new) v) }
+    ensures end { IfOk result (λ v. tells_end v ≡ true → Rose (S.ends input.old) (S.ends input.new)) }
+    ensures faults { S.faults input.old ≤ S.faults input.new }
+    ensures cause { IsErrOf result CheckFault.Read → Rose (S.faults input.old) (S.faults input.new) }
+{
+    let mut feed = Feed::new(alloc);
+    match open(&mut feed, input)? {
+        Opened::Ends(verdict) => Ok(verdict),
+        Opened::Config(config) => {
+            let mut checking = Checking {
+                ledger: GridLedger::new(alloc, config),
+                entries: 0,
+                feed,
+                alloc,
+            };
+            checking.run(input)
+        }
+    }
+}

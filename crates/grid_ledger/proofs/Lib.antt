@@ -1,0 +1,4 @@
+mod BoolLemmas
+mod FactLemmas
+mod NoteLemmas
+mod SlotLemmas

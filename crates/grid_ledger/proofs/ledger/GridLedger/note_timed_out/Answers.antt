@@ -1,0 +1,13 @@
+use Rattle.std.proofs.Common.{refl}
+use Rattle.grid_ledger.proofs.NoteLemmas.{given, noted}
+use Rattle.grid_ledger.proofs.ledger.GridLedger.note_timed_out.Goals as goal
+
+pub returns : goal.returns
+returns c = λ k. noted _ _ k _ refl
+    (record {
+      nodes = given (c.others_keep.ensures.nodes _ k _ refl);
+      slots = given (c.others_keep.ensures.slots _ k _ refl);
+      requests = given (c.timed_out.ensures k);
+      sessions = given (c.others_keep.ensures.sessions _ k _ refl);
+    })
+    (record { nodes = λ H e l. e; requests = λ H e l. e; clock = c.raised-self.ensures })
