@@ -1,16 +1,10 @@
-pub mod StreamLemmas
-pub mod NameLemmas
-pub mod ResponseLemmas
-pub mod SessionLemmas
-pub mod PollLemmas
-pub mod StepLemmas
-pub mod RoundLemmas
-pub mod WaitLemmas
-pub mod StartLemmas
-pub mod ReadyLemmas
-pub mod OutcomeLemmas
-pub mod NewLemmas
-pub mod ServedLemmas
-pub mod WrittenLemmas
-pub mod ExactLemmas
-pub mod OneLemmas
+mod GivesLemmas
+mod CrewLemmas
+mod PlayedLemmas
+mod RunLemmas
+mod ExactLemmas
+mod StartOneLemmas
+mod ScriptOneLemmas
+mod BehindLemmas
+mod TalkOneLemmas
+mod BoundLemmas

@@ -1,20 +1,24 @@
 -- That the words and the bytes fix the conversation.
-use Rattle.std.specs.Prelude.{◌≡◌, ℕ, List}
-use Rattle.http_frames.specs.Frames.{End}
-use Rattle.grid_play.specs.PlayWords.{IsPlay}
-use Rattle.grid_play.specs.Steps.{Step}
-use Rattle.grid_play.specs.Runs.{NoneLacks}
+use Rattle.std.specs.Prelude.{◌≡◌, ℕ, ◌<◌, ◌^◌, false, List, length, Ok}
+use Rattle.grid_types.specs.declared.config.HubConfig.{HubConfig}
+use Rattle.node_client.specs.Steps.{Step}
+use Rattle.conn_script.specs.declared.wants.Served.{Served}
+use Rattle.play_words.specs.declared.play.PlayNode.{PlayNode}
 use Rattle.grid_play.specs.Played.{Played}
 
--- the words ask for one browser and one number of slots
-abbrev pub OneNode : List (List ℕ) → Type 0
-OneNode words =
-    (browser other : List ℕ) (slots count : ℕ) → IsPlay words browser slots → IsPlay words other count → (browser ≡ other) × (slots ≡ count)
+-- two conversations that came to an end are one, and lead to one history, the same nodes and one moment
+pub record SameConversation (c : HubConfig) (nodes : List PlayNode) (bytes : List ℕ) (served last : Served) (steps others : List Step) (written answered : List ℕ)
+    (p : Played c nodes (Ok served) bytes steps written) (q : Played c nodes (Ok last) bytes others answered) : Type 0 where
+  pub same_end : served ≡ last
+  pub same_steps : steps ≡ others
+  pub same_written : written ≡ answered
+  pub same_history : p.history ≡ q.history
+  pub same_nodes : p.reached ≡ q.reached
+  pub same_moment : p.moment ≡ q.moment
 
--- A hub with this node has at most one conversation about these bytes in which no call was out of memory: two such have
--- the same end, the same steps and the same written bytes, and lead to the same history, node and moment.
-abbrev pub OneConversation : List ℕ → ℕ → List ℕ → Type 0
-OneConversation browser slots bytes =
-    (end last : End) (steps others : List Step) (written answered : List ℕ) (p : Played browser slots end bytes steps written)
-    (q : Played browser slots last bytes others answered) → NoneLacks steps → NoneLacks others
-    → (end ≡ last) × (steps ≡ others) × (written ≡ answered) × (p.history ≡ q.history) × (p.node ≡ q.node) × (p.moment ≡ q.moment)
+-- A play has at most one conversation about some bytes that came to an end and in which no step was out of memory.
+abbrev pub OneConversation : Type 0
+OneConversation =
+    (c : HubConfig) (nodes : List PlayNode) (bytes : List ℕ) (served last : Served) (steps others : List Step) (written answered : List ℕ)
+    (p : Played c nodes (Ok served) bytes steps written) (q : Played c nodes (Ok last) bytes others answered) →
+    length nodes < 2 ^ 16 → served.short ≡ false → last.short ≡ false → SameConversation c nodes bytes served last steps others written answered p q

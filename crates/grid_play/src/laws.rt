@@ -1,14 +1,44 @@
-//! What the definitions say among themselves. The function does nothing: its contract is the law.
-ghost use Rattle.std.specs.Prelude.{ℕ, List};
-ghost use Rattle.grid_play.specs.OneConversation.{OneNode, OneConversation};
+//! What the definitions say among themselves. The functions do nothing: their contracts are the laws.
+ghost use Rattle.play_words.specs.Words.{OnePlay};
+ghost use Rattle.grid_play.specs.Bounds.{SessionsAreBounded};
+ghost use Rattle.grid_play.specs.OneConversation.{OneConversation};
 
+use caps_merge::{bodies_give_one_answer, registrations_give_one_answer};
 use http_frames::one_reading;
+use hub_conn::conversations_find_spent_last;
+use json_spans::{a_text_is_read_one_way, a_text_is_refused_one_way};
+use node_client::replies_say_one_thing;
+use play_words::words_say_one_play;
+use start_laws::{
+    calls_keep_the_clock, calls_keep_the_newest_request, polls_are_early, starts_run_out,
+};
 
-/// The arguments and the bytes fix the conversation: where no call was out of memory, the steps, what is written, and where
-/// they lead are a function of the two. So `run` with status 0 does and writes one thing for the same words and bytes.
+/// The words and the bytes fix the conversation: where no step was out of memory, its end, the steps, what is written, and where they
+/// lead are a function of the two. So `run` with status 0 does and writes one thing for the same words and bytes.
 pub fn one_conversation()
-    ensures node { (words : List (List ℕ)) → OneNode words }
-    ensures conversation { (browser : List ℕ) (slots : ℕ) (bytes : List ℕ) → OneConversation browser slots bytes }
+    ensures words { OnePlay }
+    ensures conversation { OneConversation }
 {
+    // Laws of what lies below, which do nothing either.
+    words_say_one_play();
+    a_text_is_read_one_way();
+    a_text_is_refused_one_way();
+    bodies_give_one_answer();
+    registrations_give_one_answer();
+    replies_say_one_thing();
     one_reading();
+    conversations_find_spent_last();
+}
+
+/// In a conversation of `run` all pauses of a New Session but the last end before its time is over, so there are at most a fifteenth of
+/// that time's milliseconds and one more; and it is started at most once for each node that is registered as it comes.
+pub fn sessions_are_bounded()
+    ensures { SessionsAreBounded }
+{
+    // Laws of what lies below, which do nothing either.
+    bodies_give_one_answer();
+    starts_run_out();
+    polls_are_early();
+    calls_keep_the_newest_request();
+    calls_keep_the_clock();
 }

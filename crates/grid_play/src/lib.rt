@@ -1,25 +1,18 @@
-//! The grid in one thread: one connection over an input and an output, with nodes in memory.
+//! The grid in one thread: one connection over an input and an output, by a hub of its own with nodes in memory; or the
+//! summary of a simulation.
 //!
 //! Choices that concern this crate alone:
 //!
-//! - `run` reads its whole input before the first call, which the conversation allows: it doesn't say how far the
-//!   input was read at a step.
-//! - After a failed write the bytes written are a front of the conversation's.
+//! - Where memory is wanted before the hub and its nodes are made, nothing is read or written.
+//! - A connection that ended at the most bytes that are read is told by its own status, also where memory was wanted on the way.
 //! - That the arguments and the bytes fix the conversation is a law about the definitions: it says that there is at
 //!   most one in which no step was out of memory. That there is one is what `run` says with status 0.
 #![tactic(auto)]
 
-mod grid;
+mod crew;
+mod joined;
 mod laws;
-mod loop_node;
-mod merging;
-mod responses;
-mod streams;
 mod top;
-mod words;
 
-pub use laws::one_conversation;
+pub use laws::{one_conversation, sessions_are_bounded};
 pub use top::run;
-
-#[cfg(test)]
-mod tests;

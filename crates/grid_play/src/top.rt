@@ -1,134 +1,163 @@
 //! The top call.
-ghost use Rattle.std.specs.Prelude.{◌≡◌, ◌≢◌, ◌⊎◌, ◌↔◌, ◌≤◌, ◌<◌, ℕ, List, [], true, false, MatchOption, IfOk, IsErrOf, length};
-ghost use Rattle.http_frames.specs.Frames.{closed};
+ghost use Rattle.std.specs.Prelude.{◌≡◌, ◌≢◌, ◌⊎◌, ◌↔◌, ◌≤◌, ◌<◌, ◌^◌, ℕ, List, length, IfOk, OnErr};
+ghost use Rattle.grid_types.specs.declared.config.HubConfig.{HubConfig};
+ghost use Rattle.grid_types.specs.Config.{IsValid};
 ghost use Rattle.grid_outside.specs.Counts.{Rose};
-ghost use Rattle.grid_outside.specs.Told.{Gains};
-ghost use Rattle.grid_play.specs.PlayWords.{is_browser, Fit, IsPlay};
-ghost use Rattle.grid_play.specs.Played.{IsBuilt};
-ghost use Rattle.grid_play.specs.Served.{IsBuiltFor, Answered, Served, Ran};
+ghost use Rattle.hub_links.specs.Links.{link_of};
+ghost use Rattle.play_words.specs.declared.play.PlayNode.{PlayNode};
+ghost use Rattle.play_words.specs.Words.{Plays, IsSimulate};
+ghost use Rattle.grid_play.specs.Crew.{AllFit};
+ghost use Rattle.grid_play.specs.Ran.{Fit, FitPlay, Ran, ServedSo, Summed, end_status, status_of};
 
-use crate::grid::Grid;
-use crate::merging::{browser_choice, wanted_browser};
-use crate::streams::{ReadStop, read_all, write_all};
-use crate::words::read_words;
-use grid_outside::{Sink, Source};
-use grid_types::{Bytes, NoMemory, Text, calls_stay_legal, legal_is_safe};
-use http_frames::{one_reading, plain_request};
+use crate::crew::crew_of;
+use crate::joined::Joined;
+use grid_outside::{MemClock, Sink, Source};
+use grid_simulate::write_simulation;
+use grid_types::{HubConfig, Moment, NoMemory, Text, legal_is_safe};
+use local_driver::{ConnFault, End, Served, serve_local};
+use play_words::{PlayNode, WordsFault, read_play, read_simulate, words_say_one_play};
 use std::alloc::Global;
 
-/// Why a connection was not served to its end.
-#[derive(Clone, Copy, Debug, PartialEq, Eq)]
-enum Stop {
-    /// The input is of a form that is not built.
-    Unbuilt,
-    Read,
-    Write,
-    Memory,
-}
+/// The input was read to its end, or to the request that ends the connection, and all was written.
+const DONE: u8 = 0;
 
-/// A response, and whether a poll found no memory on the way to it.
-#[derive(Drop)]
-struct Answer {
-    response: Bytes,
-    short: bool,
-}
+/// The words do not fit.
+const REFUSED: u8 = 2;
 
-/// The browser that the input asks for, where it is of a form that is built.
-fn new_session(bytes: &[u8]) -> Option<&str>
-    ensures { MatchOption result (¬ (IsBuilt bytes.now)) (λ name. IsBuiltFor bytes.now name.now) }
-{
-    if bytes.len() > 65_536 {
-        return None;
-    }
-    one_reading();
-    match plain_request(bytes) {
-        Some(request) => {
-            if request.method == b"POST".as_slice() && request.target == b"/session".as_slice() {
-                wanted_browser(request.body)
-            } else {
-                None
-            }
-        }
-        None => None,
-    }
-}
+/// A read failed.
+const READ_FAILED: u8 = 3;
 
-/// The response of a new hub with one node to a New Session for the wanted browser.
-fn respond(alloc: Global, browser: &str, slots: u16, wanted: &str) -> Result<Answer, NoMemory>
-    requires named { is_browser browser.now ≡ true }
-    requires least { 1 ≤ slots }
-    requires most { slots ≤ 64 }
-    ensures { IfOk result (λ a. Answered browser.now slots wanted.now a.response a.short) }
-{
-    let mut grid = Grid::new(alloc, browser, slots)?;
-    let choices = browser_choice(alloc, wanted)?;
-    let response = grid.respond(alloc, choices)?;
-    Ok(Answer {
-        response,
-        short: grid.is_short(),
-    })
-}
+/// A write failed.
+const WRITE_FAILED: u8 = 4;
 
-/// Serves the one connection. Answers whether a poll found no memory.
-fn serve<S: Source, K: Sink>(
+/// Memory was wanted and there was none.
+const NO_MEMORY: u8 = 5;
+
+/// As many bytes were read as are read on a connection, and they did not end it.
+const AT_LIMIT: u8 = 6;
+
+/// Serves the one connection, by a hub in which the nodes have registered at the moment 0, over a clock that stands still but for
+/// pauses. Err is want of memory for hub and nodes: nothing was read or written.
+fn play<S: Source, K: Sink>(
     alloc: Global,
-    browser: &str,
-    slots: u16,
+    config: HubConfig,
+    played: &[PlayNode],
     input: &mut S,
     output: &mut K,
-) -> Result<bool, Stop>
-    requires named { is_browser browser.now ≡ true }
-    requires least { 1 ≤ slots }
-    requires most { slots ≤ 64 }
-    ensures served { Served browser.now slots result (S.given input.old) (S.given input.new) (S.ends input.old) (S.ends input.new)
-        (S.faults input.old) (S.faults input.new) (K.taken output.old) (K.taken output.new) (K.faults output.old) (K.faults output.new) }
+) -> Result<Result<Served, ConnFault>, NoMemory>
+    requires valid { IsValid config }
+    requires fit { AllFit played.now }
+    requires few { length played.now < 2 ^ 16 }
+    ensures served { IfOk result (λ ended. ServedSo config played.now ended
+        (link_of (S.given input.old) (K.taken output.old) (S.faults input.old) (K.faults output.old) (S.ends input.old))
+        (link_of (S.given input.new) (K.taken output.new) (S.faults input.new) (K.faults output.new) (S.ends input.new))) }
+    ensures unmade { OnErr result ((input.new ≡ input.old) × (output.new ≡ output.old)) }
 {
-    let bytes = match read_all(alloc, input) {
-        Ok(bytes) => bytes,
-        Err(ReadStop::Failed) => return Err(Stop::Read),
-        Err(ReadStop::Memory) => return Err(Stop::Memory),
+    let mut crew = crew_of(alloc, config, played)?;
+    let mut clock = MemClock::new(Moment(0));
+    let mut link = Joined {
+        source: input,
+        sink: output,
     };
-    if bytes.is_empty() {
-        calls_stay_legal();
-        legal_is_safe();
-        return Ok(false);
-    }
-    let wanted = match new_session(bytes.as_slice()) {
-        Some(wanted) => wanted,
-        None => return Err(Stop::Unbuilt),
-    };
-    let answer = match respond(alloc, browser, slots, wanted) {
-        Ok(answer) => answer,
-        Err(NoMemory) => return Err(Stop::Memory),
-    };
-    match write_all(output, answer.response.as_bytes()) {
-        Ok(()) => Ok(answer.short),
-        Err(_) => Err(Stop::Write),
+    let ended = serve_local(
+        alloc,
+        &mut crew.hub,
+        crew.numbers.as_slice(),
+        &mut link,
+        &mut crew.nodes,
+        &mut clock,
+    );
+    legal_is_safe();
+    Ok(ended)
+}
+
+fn end_status(end: End, short: bool) -> u8
+    ensures { result ≡ end_status end short }
+{
+    match end {
+        End::Limit => AT_LIMIT,
+        _ => { if short { NO_MEMORY } else { DONE } }
     }
 }
 
-/// Serves one connection with the input and the output, over a hub with the node of the words. The statuses:
-/// 0 served to its end; 1 the input is of a form that is not built, and nothing was written; 2 the words do not fit, and
-/// nothing was read or written; 3 a read failed; 4 a write failed; 5 there was no memory. With status 0 what was done and
-/// written is a function of the words and of the bytes that were read: `one_conversation`.
+/// The status of a connection that ended so.
+fn status_of(ended: Result<Served, ConnFault>) -> u8
+    ensures { result ≡ status_of ended }
+{
+    match ended {
+        Ok(served) => end_status(served.end, served.short),
+        Err(ConnFault::Read) => READ_FAILED,
+        Err(ConnFault::Write) => WRITE_FAILED,
+        Err(ConnFault::Memory) => NO_MEMORY,
+    }
+}
+
+/// Serves the one connection, and says by a status how it ended.
+fn play_to_end<S: Source, K: Sink>(
+    alloc: Global,
+    config: HubConfig,
+    played: &[PlayNode],
+    input: &mut S,
+    output: &mut K,
+) -> u8
+    requires valid { IsValid config }
+    requires fit { AllFit played.now }
+    requires few { length played.now < 2 ^ 16 }
+    ensures ran { Ran config played.now result
+        (link_of (S.given input.old) (K.taken output.old) (S.faults input.old) (K.faults output.old) (S.ends input.old))
+        (link_of (S.given input.new) (K.taken output.new) (S.faults input.new) (K.faults output.new) (S.ends input.new)) }
+    ensures read { result ≡ 3 → Rose (S.faults input.old) (S.faults input.new) }
+    ensures write { result ≡ 4 → Rose (K.faults output.old) (K.faults output.new) }
+    ensures statuses { (result ≡ 0) ⊎ ((2 < result) × (result < 7)) }
+{
+    match play(alloc, config, played, input, output) {
+        Ok(ended) => status_of(ended),
+        Err(NoMemory) => NO_MEMORY,
+    }
+}
+
+/// Plays what the words say.
+fn run_play<S: Source, K: Sink>(alloc: Global, words: &[Text], input: &mut S, output: &mut K) -> u8
+    ensures words { (result ≡ 2) ↔ ¬ (FitPlay words.now) }
+    ensures untouched { result ≡ 2 → (input.new ≡ input.old) × (output.new ≡ output.old) }
+    ensures ran { (config : HubConfig) (nodes : List PlayNode) → Plays words.now config nodes → Ran config nodes result
+        (link_of (S.given input.old) (K.taken output.old) (S.faults input.old) (K.faults output.old) (S.ends input.old))
+        (link_of (S.given input.new) (K.taken output.new) (S.faults input.new) (K.faults output.new) (S.ends input.new)) }
+    ensures read { result ≡ 3 → Rose (S.faults input.old) (S.faults input.new) }
+    ensures write { result ≡ 4 → Rose (K.faults output.old) (K.faults output.new) }
+    ensures statuses { (result ≡ 0) ⊎ ((2 ≤ result) × (result < 7)) }
+{
+    words_say_one_play();
+    match read_play(alloc, words) {
+        Ok(said) => play_to_end(alloc, said.config, said.nodes.items(), input, output),
+        Err(WordsFault::Refused) => REFUSED,
+        Err(WordsFault::Memory) => NO_MEMORY,
+    }
+}
+
+/// Does what the words say, which stand behind the program's name. `play` serves one connection with the input and the output, by a hub
+/// of its own whose nodes are in memory; `simulate` writes the summary of a number's simulation and reads nothing. Other words do not
+/// fit, and nothing is read or written.
+///
+/// The statuses: 0 the input was read to its end or to the request that ends the connection, and all that was wanted was written, or the
+/// summary was; 2 the words do not fit; 3 a read failed; 4 a write failed; 5 memory was wanted; 6 the most bytes were read that are read
+/// on a connection. With status 0 what was done and written is a function of the words and of the bytes that were read:
+/// `one_conversation`. How long a request for a session waits is limited: `sessions_are_bounded`.
 pub fn run<S: Source, K: Sink>(alloc: Global, words: &[Text], input: &mut S, output: &mut K) -> u8
     ensures words { (result ≡ 2) ↔ ¬ (Fit words.now) }
     ensures untouched { result ≡ 2 → (input.new ≡ input.old) × (output.new ≡ output.old) }
-    ensures ran { (browser : List ℕ) → (slots : ℕ) → IsPlay words.now browser slots →
-        Ran browser slots result (S.given input.old) (S.given input.new) (S.ends input.old) (S.ends input.new)
-        (S.faults input.old) (S.faults input.new) (K.taken output.old) (K.taken output.new) (K.faults output.old) (K.faults output.new) }
-    ensures statuses { result < 6 }
+    ensures ran { (config : HubConfig) (nodes : List PlayNode) → Plays words.now config nodes → Ran config nodes result
+        (link_of (S.given input.old) (K.taken output.old) (S.faults input.old) (K.faults output.old) (S.ends input.old))
+        (link_of (S.given input.new) (K.taken output.new) (S.faults input.new) (K.faults output.new) (S.ends input.new)) }
+    ensures summed { (number : ℕ) → number < 2 ^ 64 → IsSimulate words.now number →
+        Summed number result (K.taken output.old) (K.taken output.new) (K.faults output.old) (K.faults output.new) }
+    ensures unread { (number : ℕ) → number < 2 ^ 64 → IsSimulate words.now number → input.new ≡ input.old }
+    ensures read { result ≡ 3 → Rose (S.faults input.old) (S.faults input.new) }
+    ensures write { result ≡ 4 → Rose (K.faults output.old) (K.faults output.new) }
+    ensures statuses { (result ≡ 0) ⊎ ((2 ≤ result) × (result < 7)) }
 {
-    let play = match read_words(words) {
-        Some(play) => play,
-        None => return 2,
-    };
-    match serve(alloc, play.browser, play.slots, input, output) {
-        Ok(false) => 0,
-        Err(Stop::Unbuilt) => 1,
-        Err(Stop::Read) => 3,
-        Err(Stop::Write) => 4,
-        Ok(true) => 5,
-        Err(Stop::Memory) => 5,
+    match read_simulate(words) {
+        Some(number) => write_simulation(alloc, number, output),
+        None => run_play(alloc, words, input, output),
     }
 }

@@ -1,14 +1,14 @@
 -- What words say is one play.
-use Rattle.std.proofs.Common.{◌≡◌, ℕ, ◌+◌, Bool, false, List, [], ◌∷◌, ◌++◌, length, get_or, codes, Option, None, Some, refl, sym, ap, ap₂, subst, ◌∙◌, arith, append-nil, append_assoc, Result, Ok, Err, OnOk, IfErr}
+use Rattle.std.proofs.Common.{◌≡◌, ℕ, ◌+◌, ◌<◌, ◌≤◌, Bool, false, List, [], ◌∷◌, ◌++◌, length, get_or, codes, decimal, Option, None, Some, refl, sym, ap, ap₂, subst, ◌∙◌, arith, append-nil, append_assoc, Result, Ok, Err, OnOk, IfErr}
 use Rattle.std.specs.Result.{is_err}
 use Rattle.std.proofs.lemmas.Bool.{false≢true}
 use Rattle.std.proofs.lemmas.Fmt.{decimal_injective}
 use Rattle.grid_types.specs.declared.config.HubConfig.{HubConfig}
 use Rattle.grid_types.specs.Config.{default_config}
 use Rattle.play_words.specs.declared.play.PlayNode.{PlayNode}
-use Rattle.play_words.specs.Node.{begins_with_letter}
+use Rattle.play_words.specs.Node.{begins_with_letter, IsNode}
 use Rattle.play_words.specs.Options.{refusal_name, timeout_name, option_words, IsOpen, AreParts, SaysRefusal, SaysTimeout}
-use Rattle.play_words.specs.Words.{SaysNode, SaysNodes, Plays, SamePlay}
+use Rattle.play_words.specs.Words.{SaysNode, SaysNodes, SaysCrew, Plays, SamePlay}
 use Rattle.play_words.proofs.NodeLemmas.{node_one, node_letter}
 use Rattle.play_words.proofs.OptionLemmas.{ends_one, parts_one, refusal_one, timeout_one}
 
@@ -21,6 +21,12 @@ nodes_length [] (n ∷ nodes) h = absurd h
 nodes_length (w ∷ []) nodes h = absurd h
 nodes_length (w ∷ s ∷ words) [] h = absurd h
 nodes_length (w ∷ s ∷ words) (n ∷ nodes) h = omega (arith, nodes_length words nodes h.1)
+
+-- they are a crew, where there are few words
+pub all_said : (words : List (List ℕ)) → ((said : List PlayNode) × SaysNodes words said) → 0 < length words → length words ≤ 32 → (nodes : List PlayNode) × SaysCrew words nodes
+all_said words said some few =
+    let size = nodes_length words said.0 said.1 in
+    (said.0, record { nodes_are = said.1; some = omega (arith, size, some); few = omega (arith, size, few) })
 
 -- no option stands among them
 no_option : (name : List ℕ) → begins_with_letter name ≡ false → (front : List (List ℕ)) (value : List ℕ) (nodes : List PlayNode) → SaysNodes (front ++ name ∷ value ∷ []) nodes → ⊥
@@ -49,6 +55,22 @@ not_grown words others w s e h said k = behind said (subst (λ (ws : List (List 
     behind : (ns : List PlayNode) → SaysNodes (w ∷ s ∷ others) ns → ⊥
     behind [] x = x
     behind (n ∷ ns) x = h ns x.1
+
+-- a node is said by its parts
+pub node_said : (word slots b v : List ℕ) (r n : ℕ) → IsNode word b v r → (1 ≤ n) × (n ≤ 64) × (slots ≡ decimal n) → (node : PlayNode) × SaysNode word slots node
+node_said word slots b v r n is h =
+    (record { browser = b; version = v; refuses = r; slots = n }, record { word_is = is; slots_are = h.2; least = h.0; most = h.1 })
+
+pub said_more : (words others : List (List ℕ)) (w s : List ℕ) → words ≡ w ∷ s ∷ others → ((node : PlayNode) × SaysNode w s node) → ((said : List PlayNode) × SaysNodes others said) →
+    (said : List PlayNode) × SaysNodes words said
+said_more words others w s e node h = (node.0 ∷ h.0, subst (λ (ws : List (List ℕ)). SaysNodes ws (node.0 ∷ h.0)) (sym e) (node.1, h.1))
+
+pub not_first : (words others : List (List ℕ)) (w s : List ℕ) → words ≡ w ∷ s ∷ others → ((node : PlayNode) → SaysNode w s node → ⊥) → (said : List PlayNode) → SaysNodes words said → ⊥
+not_first words others w s e none said k = first said (subst (λ (ws : List (List ℕ)). SaysNodes ws said) e k)
+  where
+    first : (ns : List PlayNode) → SaysNodes (w ∷ s ∷ others) ns → ⊥
+    first [] x = x
+    first (n ∷ ns) x = none n x.0
 
 pub ok_map : {A E : Type 0} (r : Result A E) (P Q : Type 0) → (P → Q) → OnOk r P → OnOk r Q
 ok_map (Ok x) P Q f p = f p
@@ -123,3 +145,22 @@ one_play words c d nodes others p q =
       same_config = p.others ∙ ap₂ (λ (t : ℕ) (b : Bool). set_up t b) ms refused ∙ sym q.others;
       same_nodes = nodes_one q.node_words nodes others (subst (λ (ws : List (List ℕ)). SaysNodes ws nodes) same.nodes p.crew.nodes_are) q.crew.nodes_are;
     }
+
+-- the parts that were read say a play
+pub plays_of : (words nodes_said : List (List ℕ)) (refusal timeout : Option (List ℕ)) (b : Bool) (ms : ℕ) → AreParts words nodes_said refusal timeout → SaysRefusal refusal b →
+    SaysTimeout timeout ms → ((nodes : List PlayNode) × SaysCrew nodes_said nodes) → (config : HubConfig) × (nodes : List PlayNode) × Plays words config nodes
+plays_of words nodes_said refusal timeout b ms parts refused time crew = (
+  record default_config { timeout_ms = ms; reject_unsupported = b },
+  crew.0,
+  record {
+    node_words = nodes_said;
+    refusal = refusal;
+    timeout = timeout;
+    words_are = parts.begins ∙ ap (λ (ws : List (List ℕ)). codes "play" ∷ ws)
+        (parts.timeout_split.spelled ∙ ap (λ (ws : List (List ℕ)). ws ++ option_words timeout_name timeout) parts.refusal_split.spelled);
+    crew = crew.1;
+    refusal_is = refused;
+    timeout_is = time;
+    others = refl;
+  },
+)

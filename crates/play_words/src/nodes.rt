@@ -1,5 +1,5 @@
 //! The words of the nodes, two for each.
-ghost use Rattle.std.specs.Prelude.{◌≡◌, ◌++◌, List, OnOk, IfOk, IfErr};
+ghost use Rattle.std.specs.Prelude.{◌≡◌, ◌++◌, true, false, List, OnOk, IfOk, IfErr};
 ghost use Rattle.play_words.specs.declared.play.PlayNode.{PlayNode};
 ghost use Rattle.play_words.specs.Words.{SaysNode, SaysNodes};
 
@@ -26,6 +26,38 @@ fn read_node(alloc: Global, word: &str, slots: &str) -> Result<PlayNode, WordsFa
         refuses: said.refuses,
         slots: slots as u16,
     })
+}
+
+/// Whether the two words say a node.
+fn is_node(word: &str, slots: &str) -> bool
+    ensures some { result ≡ true → (node : PlayNode) × SaysNode word.now slots.now node }
+    ensures none { result ≡ false → (node : PlayNode) → ¬ SaysNode word.now slots.now node }
+{
+    match node_of(word) {
+        Some(_said) => match number_of(slots, 64) {
+            Some(_count) => true,
+            None => false,
+        },
+        None => false,
+    }
+}
+
+/// Whether the words say nodes. It takes no memory.
+pub(crate) fn are_nodes(words: &[Text]) -> bool
+    ensures some { result ≡ true → (said : List PlayNode) × SaysNodes words.now said }
+    ensures none { result ≡ false → (said : List PlayNode) → ¬ SaysNodes words.now said }
+{
+    match words {
+        [] => true,
+        [_] => false,
+        [word, slots, others @ ..] => {
+            if is_node(word.as_str(), slots.as_str()) {
+                are_nodes(others)
+            } else {
+                false
+            }
+        }
+    }
 }
 
 /// Puts the nodes that the words say behind those that are there.

@@ -6,7 +6,7 @@ ghost use Rattle.play_words.specs.declared.play.PlayNode.{PlayNode};
 ghost use Rattle.play_words.specs.Words.{Plays, IsSimulate, SaysCrew};
 ghost use Rattle.play_words.specs.Options.{AreParts};
 
-use crate::nodes::read_nodes;
+use crate::nodes::{are_nodes, read_nodes};
 use crate::number::large_number_of;
 use crate::options::{option_of, refusal_of, timeout_of};
 use crate::play::{PlayNodes, PlayWords, WordsFault};
@@ -56,8 +56,12 @@ fn read_crew(alloc: Global, words: &[Text]) -> Result<PlayNodes, WordsFault>
     ensures ok { IfOk result (λ nodes. SaysCrew words.now nodes) }
     ensures refused { IfErr result (λ f. f ≡ WordsFault.Refused →
         (nodes : List PlayNode) → ¬ SaysCrew words.now nodes) }
+    ensures memory { IfErr result (λ f. f ≡ WordsFault.Memory → (nodes : List PlayNode) × SaysCrew words.now nodes) }
 {
     if words.is_empty() || words.len() > MOST_NODE_WORDS {
+        return Err(WordsFault::Refused);
+    }
+    if !are_nodes(words) {
         return Err(WordsFault::Refused);
     }
     let mut nodes = PlayNodes::new(alloc);
@@ -73,6 +77,8 @@ pub fn read_play(alloc: Global, words: &[Text]) -> Result<PlayWords, WordsFault>
     ensures ok { IfOk result (λ p. Plays words.now p.config p.nodes) }
     ensures refused { IfErr result (λ f. f ≡ WordsFault.Refused →
         (config : HubConfig) (nodes : List PlayNode) → ¬ Plays words.now config nodes) }
+    ensures memory { IfErr result (λ f. f ≡ WordsFault.Memory →
+        (config : HubConfig) × (nodes : List PlayNode) × Plays words.now config nodes) }
 {
     let Some(parts) = parts_of(words) else {
         return Err(WordsFault::Refused);

@@ -1,9 +1,15 @@
-use Rattle.grid_play.proofs.OneLemmas.{conversation_one}
-use Rattle.grid_play.proofs.ServedLemmas.{one_play}
+use Rattle.grid_play.proofs.TalkOneLemmas.{conversation_one}
 use Rattle.grid_play.proofs.laws.one_conversation.Goals as goal
 
 pub returns : goal.returns
 returns c = record {
-  node = λ words browser other slots count p q. one_play words browser other slots count p q;
-  conversation = conversation_one c.one_reading.ensures.connection;
+  words = c.words_say_one_play.ensures;
+  conversation = conversation_one (record {
+    text = c.a_text_is_read_one_way.ensures;
+    both = c.a_text_is_refused_one_way.ensures.read;
+    bodies = c.bodies_give_one_answer.ensures;
+    registrations = c.registrations_give_one_answer.ensures;
+    replies = c.replies_say_one_thing.ensures;
+    connection = c.one_reading.ensures.connection;
+  }) c.conversations_find_spent_last.ensures;
 }

@@ -2,7 +2,7 @@ use Rattle.std.proofs.Common.{◌<◌, ◌++◌, length, subst, sym, ap, ◌∙�
 use Rattle.std.proofs.lemmas.Bool.Decides.{nat_tests}
 use Rattle.play_words.specs.declared.play.PlayNode.{PlayNode}
 use Rattle.play_words.specs.Words.{SaysCrew}
-use Rattle.play_words.proofs.PlayLemmas.{nodes_length}
+use Rattle.play_words.proofs.PlayLemmas.{all_said, nodes_length}
 use Rattle.play_words.proofs.words.read_crew.Goals as goal
 use Rattle.play_words.proofs.words.read_crew.Goals.{then-is_empty-via-then-is_empty, then-is_empty-via-else-is_empty+then-words-gt-MOST_NODE_WORDS}
 
@@ -24,3 +24,9 @@ returns-in-Ok-clause-ok c =
     let few = c.if-words-gt-MOST_NODE_WORDS.false in
     let is = said.2 ∙ ap (λ (nodes : List PlayNode). nodes ++ said.0) c.new-nodes.ensures in
     subst (SaysCrew c.args.words.now) (sym is) (record { nodes_are = said.1; some = omega (arith, size, filled); few = omega (arith, size, few) })
+
+pub returns-then-not-are_nodes-clause-refused : goal.returns-then-not-are_nodes-clause-refused
+returns-then-not-are_nodes-clause-refused c = λ _ nodes crew. c.are_nodes.ensures.none c.if-not-are_nodes.true nodes crew.nodes_are
+
+pub returns-in-Err-clause-memory : goal.returns-in-Err-clause-memory
+returns-in-Err-clause-memory c = λ _. all_said c.args.words.now (c.are_nodes.ensures.some c.if-not-are_nodes.false) (grind (arith, nat_tests)) c.if-words-gt-MOST_NODE_WORDS.false

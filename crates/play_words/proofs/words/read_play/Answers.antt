@@ -3,7 +3,7 @@ use Rattle.std.specs.Option.{option_copied}
 use Rattle.play_words.specs.Options.{SaysRefusal, SaysTimeout}
 use Rattle.play_words.specs.Words.{SaysCrew}
 use Rattle.play_words.proofs.OptionLemmas.{parts_one}
-use Rattle.play_words.proofs.PlayLemmas.{plays_parts}
+use Rattle.play_words.proofs.PlayLemmas.{plays_of, plays_parts}
 use Rattle.play_words.proofs.words.read_play.Goals as goal
 
 pub returns-in_default-refusal_of-clause-refused : goal.returns-in_default-refusal_of-clause-refused
@@ -23,3 +23,8 @@ returns-in-Err-clause-refused c = λ refused config nodes p.
     let same = parts_one c.args.words.now p.node_words c.in-Some.parts.nodes.now p.refusal (option_copied c.in-Some.parts.refusal) p.timeout (option_copied c.in-Some.parts.timeout)
     (plays_parts c.args.words.now config nodes p) c.in-Some.ensures.some in
     c.in-Err.ensures.refused refused nodes (subst (λ (ws : List (List ℕ)). SaysCrew ws nodes) same.nodes p.crew)
+
+pub returns-in-Err-clause-memory : goal.returns-in-Err-clause-memory
+returns-in-Err-clause-memory c = λ e.
+    plays_of c.args.words.now c.in-Some.parts.nodes.now (option_copied c.in-Some.parts.refusal) (option_copied c.in-Some.parts.timeout) c.in-Some-refusal_of.reject_unsupported
+    c.in-Some-timeout_of.timeout_ms c.in-Some.ensures.some c.in-Some-refusal_of.ensures.some c.in-Some-timeout_of.ensures.some (c.in-Err.ensures.memory e)
