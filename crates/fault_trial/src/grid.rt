@@ -1,64 +1,13 @@
 //! A shared hub with its nodes, and connections over it.
 ghost use Rattle.hub_cell.specs.Passes.{IsOf};
 
-use grid_outside::{MemClock, MemLink, MemNodes, MemSink, MemSource, NodeReply, Reply};
-use grid_types::{Bytes, Moment};
+use grid_outside::{MemClock, MemNodes};
+use grid_types::Moment;
 use hub_cell::{Pass, SharedHub};
-use hub_serving::{ConnFault, Served, serve_shared};
+use hub_serving::serve_shared;
+use play_tables::{Client, Seen, asks_of, link_of, plain};
 use std::alloc::Global;
 use std::sync::Wait;
-
-/// A client: what it sends, how many bytes a read gives and a write takes at most, and which of its reads and writes fail, from 0.
-#[derive(Clone, Copy)]
-pub struct Client<'a> {
-    pub sends: &'a [u8],
-    pub gives: usize,
-    pub takes: usize,
-    pub reads_fail: &'a [u64],
-    pub writes_fail: &'a [u64],
-}
-
-/// Gives and takes as much as there is.
-pub fn plain(sends: &[u8]) -> Client<'_> {
-    Client {
-        sends,
-        gives: 65_536,
-        takes: 65_536,
-        reads_fail: &[],
-        writes_fail: &[],
-    }
-}
-
-/// The texts one after the other.
-pub fn joined(alloc: Global, parts: &[&[u8]]) -> Option<Vec<u8>> {
-    let mut all = Vec::new(alloc);
-    for part in parts {
-        all.extend_from_slice(part).ok()?;
-    }
-    Some(all)
-}
-
-/// The client's connection. None is want of memory, or that a piece may have no byte.
-pub fn link_of(alloc: Global, client: &Client<'_>) -> Option<MemLink> {
-    if client.gives == 0 || client.takes == 0 {
-        return None;
-    }
-    let sends = Bytes::of(alloc, client.sends).ok()?;
-    let reads_fail = Vec::from_slice(alloc, client.reads_fail).ok()?;
-    let writes_fail = Vec::from_slice(alloc, client.writes_fail).ok()?;
-    Some(MemLink::new(
-        MemSource::new(sends, client.gives, reads_fail),
-        MemSink::new(alloc, client.takes, writes_fail),
-    ))
-}
-
-/// What came of a connection: the bytes that were written, how it ended, and what the nodes were asked.
-#[derive(Debug, PartialEq, Drop)]
-pub struct Seen {
-    pub written: Vec<u8>,
-    pub ended: Result<Served, ConnFault>,
-    pub asks: String,
-}
 
 /// Serves the client from moment 0 on.
 pub fn served<R: Wait>(
@@ -96,49 +45,4 @@ pub fn asked<R: Wait>(
     let mut nodes = MemNodes::new(alloc, Vec::new(alloc));
     let seen = served(rt, alloc, hub, pass, &mut nodes, &plain(sends))?;
     Some(seen.written)
-}
-
-fn reply_of(alloc: Global, status: u16, body: &[u8]) -> Option<Reply> {
-    let body = Bytes::of(alloc, body).ok()?;
-    if status == 0 {
-        return Some(Reply::NotHttp(body));
-    }
-    Some(Reply::Http(NodeReply {
-        status,
-        reason: Bytes::of(alloc, b"R").ok()?,
-        content_type: None,
-        content_encoding: None,
-        cache_control: None,
-        body,
-    }))
-}
-
-/// Nodes that reply in this order, each with a status, 0 for what is no HTTP, and a body; these exchanges fail, from 0.
-pub fn nodes_of(alloc: Global, replies: &[(u16, &str)], fails: &[u64]) -> Option<MemNodes> {
-    let mut nodes = MemNodes::new(alloc, Vec::from_slice(alloc, fails).ok()?);
-    for (status, body) in replies {
-        nodes.push(reply_of(alloc, *status, body.as_bytes())?).ok()?;
-    }
-    Some(nodes)
-}
-
-fn str_of(bytes: &[u8]) -> &str {
-    std::str::from_utf8(bytes).unwrap_or("")
-}
-
-// Method, address and target of each exchange.
-fn asks_of(alloc: Global, nodes: &MemNodes) -> Option<String> {
-    let mut told = String::new(alloc);
-    for exchange in nodes.made() {
-        let ask = &exchange.ask;
-        let one = format!(in alloc;
-            "{} {}{}; ",
-            str_of(ask.method.as_bytes()),
-            str_of(exchange.address.as_bytes()),
-            str_of(ask.target.as_bytes())
-        )
-        .ok()?;
-        told.push_str(one.as_str()).ok()?;
-    }
-    Some(told)
 }

@@ -9,9 +9,7 @@ mod grid;
 mod malicious;
 #[cfg(test)]
 mod plays;
-mod told;
 #[cfg(test)]
 mod worked;
 
-pub use grid::{Client, Seen, asked, joined, link_of, nodes_of, plain, served};
-pub use told::{BAD, CONTINUE, FAULT, MISSING, NO_COMMAND, NO_SESSION, NULL, OK, Told, text_of};
+pub use grid::{asked, served};

@@ -1,0 +1,48 @@
+//! What goes before each request: own nodes give a sign of life, the hub sweeps, and idle sessions are ended.
+use crate::plays::{makes_entries, waiting};
+use grid_types::{HubConfig, NodeNo};
+use play_tables::{BEATEN_STAYS, IDLE_ENDS, NONE_MATCHES, Play, SILENT_IS_SUSPECT, SILENT_LAPSES};
+use std::test::Fail;
+
+// A connection, the hub's own nodes, how many milliseconds a request waits, and the entries behind the registration.
+type Row = (Play, &'static [NodeNo], u64, &'static str);
+
+const ROWS: [Row; 4] = [
+    (
+        IDLE_ENDS,
+        &[1],
+        300_000,
+        "beat queue reserve bind take beat queue time-out take beat end free beat ",
+    ),
+    (SILENT_LAPSES, &[], 300_000, "queue time-out take lapse "),
+    (
+        BEATEN_STAYS,
+        &[1],
+        300_000,
+        "beat queue time-out take beat ",
+    ),
+    (
+        SILENT_IS_SUSPECT,
+        &[],
+        150_000,
+        "queue time-out take suspect beat ",
+    ),
+];
+
+#[test]
+fn nodes_beat_and_idle_sessions_end_before_a_request(rt: HostRuntime) -> Result<(), Fail> {
+    let alloc = rt.alloc();
+    for (play, own, timeout_ms, entries) in &ROWS {
+        makes_entries(&rt, alloc, play, own, waiting(*timeout_ms), entries)?;
+    }
+    Ok(())
+}
+
+#[test]
+fn what_no_slot_matches_is_refused(rt: HostRuntime) -> Result<(), Fail> {
+    let config = HubConfig {
+        reject_unsupported: true,
+        ..HubConfig::default()
+    };
+    makes_entries(&rt, rt.alloc(), &NONE_MATCHES, &[1], config, "beat beat ")
+}
