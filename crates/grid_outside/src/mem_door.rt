@@ -1,5 +1,5 @@
 //! A door in memory.
-ghost use Rattle.std.specs.Prelude.{◌≡◌, ℕ, ◌-◌, ◌^◌, ◌≤◌, min, List, [], ◌∷◌, ◌++◌, None, Option, Result, IfOk, OnOk, OnErr, IfErr};
+ghost use Rattle.std.specs.Prelude.{◌≡◌, ℕ, ◌-◌, ◌^◌, ◌≤◌, min, List, [], ◌∷◌, ◌++◌, None, Option, Result, is_none, is_err, IfOk, OnOk, OnErr, IfErr};
 ghost use Rattle.grid_outside.specs.Counts.{Rose, HasCause};
 
 use crate::door::Door;
@@ -23,11 +23,15 @@ pub struct MemDoor {
 
 impl MemDoor {
     ghost use Rattle.grid_outside.specs.MemDoors.{to_hand_out};
+    ghost use Rattle.grid_outside.specs.Planned.{Begins};
 
     /// A door without links. `fails` has the numbers of the binds and accepts, from 0, that are to
     /// fail.
     pub fn new(alloc: Global, at: Moment, fails: Vec<u64>) -> MemDoor
-        ensures { to_hand_out result ≡ [] }
+        ensures links { to_hand_out result ≡ [] }
+        ensures at { result.at ≡ at }
+        ensures plan { Begins fails.items result.failing }
+        ensures ends { result.ends ≡ 0 }
     {
         MemDoor {
             alloc,
@@ -43,6 +47,7 @@ impl MemDoor {
         ensures ok { OnOk result (to_hand_out self.new ≡ to_hand_out self.old ++ link ∷ []) }
         ensures err { OnErr result (to_hand_out self.new ≡ to_hand_out self.old) }
         ensures back { IfErr result (λ l. l ≡ link) }
+        ensures rest { self.new ≡ record self.old { links = self.new.links } }
     {
         match self.links.push(link) {
             Ok(()) => Ok(()),
@@ -53,8 +58,10 @@ impl MemDoor {
 
 impl Door for MemDoor {
     ghost use Rattle.grid_outside.specs.MemDoors.{to_hand_out, HandsOut};
-    ghost use Rattle.grid_outside.specs.MemNodes.{to_give};
-    ghost use Rattle.grid_outside.specs.Memory.{clock_at};
+    ghost use Rattle.grid_outside.specs.MemNodes.{to_give, exchanges_made};
+    ghost use Rattle.grid_outside.specs.Memory.{clock_at, clock_pauses};
+    ghost use Rattle.grid_outside.specs.Counts.{more_if};
+    ghost use Rattle.grid_outside.specs.Planned.{Begins, CountsCall, is_due};
 
     type L = MemLink;
 
@@ -70,6 +77,10 @@ impl Door for MemDoor {
         ensures cause { HasCause self.old.failing.faults self.new.failing.faults result }
         ensures ends { self.old.ends ≤ self.new.ends }
         ensures links { to_hand_out self.new ≡ to_hand_out self.old }
+        // It fails exactly where that is planned.
+        ensures fails { is_err result ≡ is_due self.old.failing }
+        ensures counts { CountsCall self.old.failing self.new.failing result }
+        ensures rest { self.new ≡ record self.old { failing = self.new.failing } }
     {
         let _ = port;
         if self.failing.next_fails() {
@@ -85,6 +96,11 @@ impl Door for MemDoor {
         ensures ends { self.old.ends ≤ self.new.ends }
         ensures next { IfOk result (HandsOut (to_hand_out self.old) (to_hand_out self.new)) }
         ensures failed { OnErr result (to_hand_out self.new ≡ to_hand_out self.old) }
+        ensures fails { is_err result ≡ is_due self.old.failing }
+        ensures counts { CountsCall self.old.failing self.new.failing result }
+        ensures none { IfOk result (λ link. self.new.ends ≡ more_if (is_none link) self.old.ends) }
+        ensures open_still { OnErr result (self.new.ends ≡ self.old.ends) }
+        ensures at { self.new.at ≡ self.old.at }
     {
         if self.failing.next_fails() {
             self.failing.count_fault();
@@ -102,6 +118,9 @@ impl Door for MemDoor {
         ensures ends { self.old.ends ≤ self.new.ends }
         ensures links { to_hand_out self.new ≡ to_hand_out self.old }
         ensures give { to_give result ≡ [] }
+        ensures made { exchanges_made result ≡ [] }
+        ensures plan { Begins [] result.failing }
+        ensures rest { self.new ≡ self.old }
     {
         MemNodes::new(self.alloc, Vec::new(self.alloc))
     }
@@ -111,6 +130,8 @@ impl Door for MemDoor {
         ensures ends { self.old.ends ≤ self.new.ends }
         ensures links { to_hand_out self.new ≡ to_hand_out self.old }
         ensures at { clock_at result ≡ min (2 ^ 62 - 1) self.old.at.0 }
+        ensures pauses { clock_pauses result ≡ record { count = 0; sum = 0 } }
+        ensures rest { self.new ≡ self.old }
     {
         MemClock::new(self.at)
     }

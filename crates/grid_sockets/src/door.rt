@@ -34,6 +34,7 @@ impl<R: Net<Listener = TcpListener, Stream = TcpStream> + Drop> TcpDoor<R> {
     /// A door that is not bound yet. With a limit it closes after so many accepted links.
     pub fn new(runtime: R, limit: Option<u64>) -> Self
         ensures limit { result.left ≡ limit }
+        ensures unbound { result.listener ≡ None }
         ensures faults { result.faults ≡ 0 }
         ensures ends { result.ends ≡ 0 }
     {
@@ -105,6 +106,7 @@ impl<R: Net<Listener = TcpListener, Stream = TcpStream> + time::Clock + Copy + S
         ensures cause { HasCause self.old.faults self.new.faults result }
         ensures ends { self.old.ends ≤ self.new.ends }
         ensures bound { OnOk result (IsSome self.new.listener) }
+        ensures err { OnErr result (self.new.listener ≡ self.old.listener) }
         ensures limit { self.new.left ≡ self.old.left }
     {
         match TcpListener::bind(&self.runtime, (Ipv4Addr::UNSPECIFIED, port)) {
@@ -126,6 +128,7 @@ impl<R: Net<Listener = TcpListener, Stream = TcpStream> + time::Clock + Copy + S
         // It closes exactly after its limit.
         ensures limit { IfOk result (IsCounted self.old.left self.new.left) }
         ensures failed { OnErr result (self.new.left ≡ self.old.left) }
+        ensures bound { self.new.listener ≡ self.old.listener }
     {
         if self.left == Some(0) {
             self.ends = self.ends.saturating_add(1);
@@ -151,6 +154,8 @@ impl<R: Net<Listener = TcpListener, Stream = TcpStream> + time::Clock + Copy + S
         ensures faults { self.old.faults ≤ self.new.faults }
         ensures ends { self.old.ends ≤ self.new.ends }
         ensures limit { self.new.left ≡ self.old.left }
+        ensures rest { self.new ≡ self.old }
+        ensures fresh { result.faults ≡ 0 }
     {
         TcpNodes::new(self.runtime)
     }
@@ -159,6 +164,8 @@ impl<R: Net<Listener = TcpListener, Stream = TcpStream> + time::Clock + Copy + S
         ensures faults { self.old.faults ≤ self.new.faults }
         ensures ends { self.old.ends ≤ self.new.ends }
         ensures limit { self.new.left ≡ self.old.left }
+        ensures rest { self.new ≡ self.old }
+        ensures fresh { result.last ≡ 0 }
     {
         MachineClock::new(self.runtime)
     }

@@ -20,7 +20,9 @@ const LATEST: u64 = (1 << 62) - 1;
 
 impl<R: time::Clock + Drop> MachineClock<R> {
     /// A clock that asks this runtime, and has shown nothing yet.
-    pub fn new(runtime: R) -> Self {
+    pub fn new(runtime: R) -> Self
+        ensures { result.last ≡ 0 }
+    {
         MachineClock { runtime, last: 0 }
     }
 
