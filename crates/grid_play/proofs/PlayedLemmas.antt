@@ -42,11 +42,12 @@ exchanges_reached n k (Exchanged address ask came ∷ steps) e = (nodes_reached 
 exchanges_reached n k (Paused ms ∷ steps) e = exchanges_reached n k steps e
 
 pub rose_of : (ended : Result Served ConnFault) (l m : LinkView) → (ended ≡ Err faults.Read → Rose l.read_faults m.read_faults) →
-    (ended ≡ Err faults.Write → Rose l.write_faults m.write_faults) → IfOk ended (λ served. RoseFor (end_cause served.end) l m) → RoseFor (result_cause ended) l m
-rose_of (Ok served) l m r w e = e
-rose_of (Err faults.Read) l m r w e = r refl
-rose_of (Err faults.Write) l m r w e = w refl
-rose_of (Err faults.Memory) l m r w e = tt
+    (ended ≡ Err faults.Write → Rose l.write_faults m.write_faults) → (ended ≡ Err faults.Memory → m.ends ≡ l.ends) →
+    IfOk ended (λ served. RoseFor (end_cause served.end) l m) → RoseFor (result_cause ended) l m
+rose_of (Ok served) l m r w k e = e
+rose_of (Err faults.Read) l m r w k e = r refl
+rose_of (Err faults.Write) l m r w k e = w refl
+rose_of (Err faults.Memory) l m r w k e = k refl
 
 -- a connection that was served from a hub in which the nodes have registered
 pub served_so : (c : HubConfig) (played : List PlayNode) (ended : Result Served ConnFault) (h h' : HubView) (n n' : LoopNodes) (m m' : ℕ) (p p' : Option Pauses) (q : Pauses)

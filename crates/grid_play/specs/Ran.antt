@@ -54,7 +54,7 @@ abbrev pub IsUnspent : Result Served ConnFault → Type 0
 IsUnspent ended = IfOk ended (λ served. served.end ≢ ends.HubSpent)
 
 -- The connection was served and ended so: bytes were read, steps made and bytes written in this call that are a conversation, and what
--- its end blames has happened.
+-- its end blames has happened. Where it blames nothing outside, as out of memory, the end of input was not read.
 pub record ServedSo (c : HubConfig) (nodes : List PlayNode) (ended : Result Served ConnFault) (old new : LinkView) : Type 0 where
   pub bytes : List ℕ
   pub steps : List Step

@@ -4,6 +4,8 @@
 //! Choices that concern this crate alone:
 //!
 //! - Where memory is wanted before the hub and its nodes are made, nothing is read or written.
+//! - Want of memory ends a connection only for bytes that no answered request holds, before a request or the end of input ends it. So a run that
+//!   answered all that was asked and read the end of input is told as out of memory only where a step on the way was, after which it went on.
 //! - A connection that ended at the most bytes that are read is told by its own status, also where memory was wanted on the way.
 //! - That the arguments and the bytes fix the conversation is a law about the definitions: it says that there is at
 //!   most one in which no step was out of memory. That there is one is what `run` says with status 0.

@@ -141,7 +141,8 @@ fn run_play<S: Source, K: Sink>(alloc: Global, words: &[Text], input: &mut S, ou
 ///
 /// The statuses: 0 the input was read to its end or to the request that ends the connection, and all that was wanted was written, or the
 /// summary was; 2 the words do not fit; 3 a read failed; 4 a write failed; 5 memory was wanted; 6 the most bytes were read that are read
-/// on a connection. With status 0 what was done and written is a function of the words and of the bytes that were read:
+/// on a connection. Where all that was asked is answered and the end of input was read, 5 tells that memory was wanted at a step after which
+/// the connection went on. With status 0 what was done and written is a function of the words and of the bytes that were read:
 /// `one_conversation`. How long a request for a session waits is limited: `sessions_are_bounded`.
 pub fn run<S: Source, K: Sink>(alloc: Global, words: &[Text], input: &mut S, output: &mut K) -> u8
     ensures words { (result ≡ 2) ↔ ¬ (Fit words.now) }

@@ -122,12 +122,13 @@ talked_refused takes talk own bytes rest steps written why x other fault =
 -- ---- what cuts it short
 
 pub memory_broke : (talk : Talk) (own : Option (List ℕ)) (bytes rest : List ℕ) (steps : List Step) (responses written : List ℕ) →
-    Answered own talk.frames bytes rest steps responses → (talk.continued ≡ true → Waits rest true) → written ≡ responses ++ continue_text talk.continued →
+    Answered own talk.frames bytes rest steps responses → 0 < length rest → (talk.continued ≡ true → Waits rest true) → written ≡ responses ++ continue_text talk.continued →
     MemoryBroke own bytes steps written
-memory_broke talk own bytes rest steps responses written answered waited is = record {
+memory_broke talk own bytes rest steps responses written answered some waited is = record {
   requests = answered.requests;
   rest = rest;
-  begins = reads_begins bytes answered.requests rest answered.reads;
+  begins = answered.reads;
+  owes = some;
   responses = responses;
   before = steps;
   scripts = answered.scripts;
@@ -146,7 +147,7 @@ pub refusal_breaks : (talk : Talk) (own : Option (List ℕ)) (bytes rest : List 
 refusal_breaks talk own bytes rest steps written why x fault taken left undone is some none = record {
   requests = x.answered.requests;
   rest = rest;
-  begins = reads_begins bytes x.answered.requests rest x.answered.reads;
+  begins = x.answered.reads;
   responses = x.responses;
   before = steps;
   scripts = x.answered.scripts;

@@ -164,11 +164,11 @@ came_between stays one head old new more own w bytes steps written x holds read 
 
 -- there is no memory for it
 pub came_broke : WholeStays → OneHead → HeadStays → (old : Talk) (more : List ℕ) (own : Option (List ℕ)) (w : Wanted) (bytes : List ℕ) (steps : List Step) (written : List ℕ) →
-    Standing states.Reading old own w bytes steps written → MemoryBroke own (bytes ++ more) steps written
-came_broke stays one head old more own w bytes steps written x =
+    0 < length more → Standing states.Reading old own w bytes steps written → MemoryBroke own (bytes ++ more) steps written
+came_broke stays one head old more own w bytes steps written some x =
     let y = read_on_of old own w bytes steps written x in
     memory_broke old own (bytes ++ more) (x.rest ++ more) steps y.responses written (grown stays old own bytes x.rest more steps y.responses y.answered)
-    (λ e. waits_grow one head x.rest more (subst (λ (b : Bool). Waits x.rest b) e y.waits)) y.written_is
+    (omega (arith, some, length-append x.rest more)) (λ e. waits_grow one head x.rest more (subst (λ (b : Bool). Waits x.rest b) e y.waits)) y.written_is
 
 pub feeds_came : WholeStays → OneHead → HeadStays → (old mid new : Talk) (p : Bor (List ℕ)) → old.state ≡ states.Reading → Settles new of_nothing [] →
     ((own : Option (List ℕ)) (bytes : List ℕ) (steps : List Step) (written : List ℕ) → IsBetween mid own bytes steps written → StandsNow new own bytes steps written) →
@@ -182,14 +182,14 @@ feeds_came stays one head old mid new p e settles looks holds read begins frames
     (looks own (bytes ++ p.now) steps written
     (came_between stays one head old mid p.now own w bytes steps written x holds read begins frames short continued room)))
 
-pub feeds_came_broke : WholeStays → OneHead → HeadStays → (old new : Talk) (p : Bor (List ℕ)) → old.state ≡ states.Reading → Settles new of_nothing [] →
+pub feeds_came_broke : WholeStays → OneHead → HeadStays → (old new : Talk) (p : Bor (List ℕ)) → old.state ≡ states.Reading → 0 < length p.now → Settles new of_nothing [] →
     new.state ≡ states.Done (Err faults.Memory) → Feeds old (told.Bytes p) new
-feeds_came_broke stays one head old new p e settles failed =
+feeds_came_broke stays one head old new p e some settles failed =
     feeds_plain old new (told.Bytes p) states.Reading of_nothing e refl refl refl (none_stays old new states.Reading (told.Bytes p) e (λ n x. x)) settles refl refl
     (done_less old new (told.Bytes p) states.Reading (Err faults.Memory) e failed (λ o. reading_some_work (bytes_left old))) (λ own w bytes steps written made st fits made_is.
     let x = in_state_of old states.Reading own w bytes steps written e st in
     nothing_made new own (bytes ++ p.now) steps made written made_is
-    (done_stands new (Err faults.Memory) own (bytes ++ p.now) steps written failed (came_broke stays one head old p.now own w bytes steps written x)))
+    (done_stands new (Err faults.Memory) own (bytes ++ p.now) steps written failed (came_broke stays one head old p.now own w bytes steps written some x)))
 
 pub piece_room : (talk : Talk) (p : Bor (List ℕ)) → IsAwaited (told.Bytes p) (awaited talk) → StandsForSome talk → length p.now + talk.read ≤ LIMIT
 piece_room talk p x some =

@@ -1,5 +1,5 @@
 -- The script of the request at the front goes on, or is over.
-use Rattle.std.proofs.Common.{◌≡◌, ◌⊎◌, ℕ, Bool, true, false, ◌||◌, List, [], ◌++◌, refl, sym, ap, ◌∙◌, subst, append-nil, append_assoc, inl, inr}
+use Rattle.std.proofs.Common.{◌≡◌, ◌⊎◌, ℕ, ◌<◌, Bool, true, false, ◌||◌, List, [], ◌++◌, length, refl, sym, ap, ◌∙◌, subst, arith, append-nil, append_assoc, length-append, inl, inr}
 use Rattle.std.specs.Prelude.{Option, Err}
 use Rattle.http_frames.specs.declared.frames.TheConstants.{LIMITS}
 use Rattle.http_frames.specs.Frames.{Request, IsWhole}
@@ -26,7 +26,7 @@ use Rattle.hub_conn.specs.declared.talk.State.TheVariants as states
 use Rattle.hub_conn.specs.Conversation.{MemoryBroke, in_request, Finished}
 use Rattle.hub_conn.specs.Inbox.{unread, HoldsWhole}
 use Rattle.hub_conn.specs.Talk.{SameBut, Rests, Answered, AtFront, Standing, IsTurned, IsComplete, StandsNow, EndsUndone, HasUndone}
-use Rattle.hub_conn.proofs.ReadLemmas.{WholeStays, reads_begins}
+use Rattle.hub_conn.proofs.ReadLemmas.{WholeStays, WholeTakes}
 use Rattle.hub_conn.proofs.ScriptLemmas.{met_more, met_none, begun_meets_none}
 use Rattle.hub_conn.proofs.StateLemmas.{stands_in, done_stands, counts_kept}
 use Rattle.hub_conn.proofs.EndLemmas.{settled_all}
@@ -211,14 +211,20 @@ whole_front : (inbox : Inbox) (rest : List ℕ) (f : Request) → WholeStays →
 whole_front inbox rest f stays (front, read, is, whole, at_end) =
     (unread inbox, subst (λ (b : List ℕ). IsWhole LIMITS b f.0 f.1 (unread inbox)) (sym is) (stays LIMITS front (unread inbox) f.0 f.1 [] whole))
 
+-- it has bytes
+pub whole_some : WholeTakes → (inbox : Inbox) (rest : List ℕ) (f : Request) → HoldsWhole inbox rest f → 0 < length rest
+whole_some takes inbox rest f (front, read, is, whole, at_end) =
+    omega (arith, takes LIMITS front f.0 f.1 [] whole, ap length is, length-append front (unread inbox))
+
 -- want of memory ends it
-pub broke : WholeStays → (old : Talk) (t : Turn) (own : Option (List ℕ)) (bytes : List ℕ) (steps more : List Step) (written : List ℕ) → (x : IsTurned old own bytes steps written t) →
+pub broke : WholeStays → WholeTakes → (old : Talk) (t : Turn) (own : Option (List ℕ)) (bytes : List ℕ) (steps more : List Step) (written : List ℕ) → (x : IsTurned old own bytes steps written t) →
     Lacks x.f ((x.mine ++ x.made) ++ more) → MemoryBroke own bytes (steps ++ more) written
-broke stays old t own bytes steps more written x lacks =
+broke stays takes old t own bytes steps more written x lacks =
     let w = whole_front old.inbox x.rest x.f stays x.at_front.holds in record {
       requests = x.answered.requests;
       rest = x.rest;
-      begins = reads_begins bytes x.answered.requests x.rest x.answered.reads;
+      begins = x.answered.reads;
+      owes = whole_some takes old.inbox x.rest x.f x.at_front.holds;
       responses = x.responses;
       before = x.before;
       scripts = x.answered.scripts;
@@ -232,14 +238,14 @@ broke stays old t own bytes steps more written x lacks =
     }
 
 -- at once
-pub broke_now : WholeStays → (old : Talk) (t : Turn) (own : Option (List ℕ)) (bytes : List ℕ) (steps : List Step) (written : List ℕ) → (x : IsTurned old own bytes steps written t) →
+pub broke_now : WholeStays → WholeTakes → (old : Talk) (t : Turn) (own : Option (List ℕ)) (bytes : List ℕ) (steps : List Step) (written : List ℕ) → (x : IsTurned old own bytes steps written t) →
     Lacks x.f (x.mine ++ x.made) ⊎ ((response : Response) × Script x.f (x.mine ++ x.made) response × Undoes response []) → MemoryBroke own bytes steps written
-broke_now stays old t own bytes steps written x (inl lacks) =
+broke_now stays takes old t own bytes steps written x (inl lacks) =
     subst (λ (s : List Step). MemoryBroke own bytes s written) (append-nil steps)
-    (broke stays old t own bytes steps [] written x (subst (λ (s : List Step). Lacks x.f s) (sym (append-nil (x.mine ++ x.made))) lacks))
-broke_now stays old t own bytes steps written x (inr (response, script, undoes)) =
+    (broke stays takes old t own bytes steps [] written x (subst (λ (s : List Step). Lacks x.f s) (sym (append-nil (x.mine ++ x.made))) lacks))
+broke_now stays takes old t own bytes steps written x (inr (response, script, undoes)) =
     subst (λ (s : List Step). MemoryBroke own bytes s written) (append-nil steps)
-    (broke stays old t own bytes steps [] written x (behind_all (x.mine ++ x.made) [] response script undoes))
+    (broke stays takes old t own bytes steps [] written x (behind_all (x.mine ++ x.made) [] response script undoes))
 
 -- ---- the end of a session that was created
 

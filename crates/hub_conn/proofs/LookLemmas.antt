@@ -1,5 +1,5 @@
 -- What is looked at between two requests.
-use Rattle.std.proofs.Common.{◌≡◌, ◌≢◌, ℕ, ◌-◌, ◌<◌, min, Bool, true, false, not, ◌&&◌, List, [], ◌++◌, length, take, drop, refl, sym, ap, ◌∙◌, subst, arith, append-nil}
+use Rattle.std.proofs.Common.{◌≡◌, ◌≢◌, ℕ, ◌-◌, ◌<◌, min, Bool, true, false, not, ◌&&◌, List, [], ◌∷◌, ◌++◌, length, take, drop, refl, sym, ap, ◌∙◌, subst, arith, append-nil, length-append}
 use Rattle.std.specs.Prelude.{Option, Ok, Err}
 use Rattle.httparse.specs.Grammar.{RequestHead}
 use Rattle.http_frames.specs.declared.frames.TheConstants.{LIMITS}
@@ -26,12 +26,12 @@ use Rattle.hub_conn.proofs.ScriptLemmas.{response_some}
 use Rattle.hub_conn.proofs.StateLemmas.{stands_in, done_stands, counts_kept}
 use Rattle.hub_conn.proofs.EndLemmas.{NoneAccepted, memory_broke, talked_limit, talked_refused, refusal_breaks}
 
--- ---- there is no memory to read on
+-- ---- there is no memory to read on, where bytes stand that were not read yet
 
-pub look_broke : (old new : Talk) → new.state ≡ states.Done (Err faults.Memory) → Looks old new
-look_broke old new failed own bytes steps written x =
+pub look_broke : (old new : Talk) → 0 < length (unread old.inbox) → new.state ≡ states.Done (Err faults.Memory) → Looks old new
+look_broke old new some failed own bytes steps written x =
     done_stands new (Err faults.Memory) own bytes steps written failed
-    (memory_broke old own bytes x.rest steps x.responses written x.answered x.waited x.written_is)
+    (memory_broke old own bytes x.rest steps x.responses written x.answered (omega (arith, some, ap length x.holds.2, length-append x.holds.0 (unread old.inbox))) x.waited x.written_is)
 
 -- ---- a client waits
 
@@ -166,13 +166,17 @@ refuses_so takes old new why text text_is state same short own bytes rest steps 
       }),
 )
 
+some_of : (rest : List ℕ) → ¬ (rest ≡ []) → 0 < length rest
+some_of [] none = absurd (none refl)
+some_of (b ∷ rest) none = omega arith
+
 waited_of : (rest : List ℕ) (continued : Bool) → Waits rest continued → continued ≡ true → Waits rest true
 waited_of rest continued x e = subst (λ (b : Bool). Waits rest b) e x
 
 pub refuse_broke : (old new : Talk) (why : FrameFault) → new.state ≡ states.Done (Err faults.Memory) → Refuses old why new
 refuse_broke old new why failed own bytes rest steps written x y =
     done_stands new (Err faults.Memory) own bytes steps written failed
-    (memory_broke old own bytes rest steps x.responses written x.answered (λ e. waited_of rest old.continued x.waits e) x.written_is)
+    (memory_broke old own bytes rest steps x.responses written x.answered (some_of rest y.1) (λ e. waited_of rest old.continued x.waits e) x.written_is)
 
 -- ---- a whole request
 

@@ -4,8 +4,7 @@ use Rattle.httparse.specs.Grammar.{RequestHead}
 use Rattle.http_frames.specs.declared.frames.TheConstants.{LIMITS}
 use Rattle.http_frames.specs.declared.frames.FrameLimits.{FrameLimits}
 use Rattle.http_frames.specs.Frames.{Request, End, asked, IsWhole, IsEnd, FramesFrom, closes}
-use Rattle.hub_conn.specs.Conversation.{BeginsWith}
-use Rattle.hub_conn.specs.Talk.{ReadsTo}
+use Rattle.hub_conn.specs.Conversation.{BeginsWith, ReadsTo}
 
 -- the laws of the framing that are used
 abbrev pub WholeStays : Type 0

@@ -32,11 +32,11 @@ use Rattle.hub_conn.specs.declared.talk.Outgoing.{Outgoing}
 use Rattle.hub_conn.specs.Conversation.{MemoryBroke, before_request, Waits, none as none_yet}
 use Rattle.hub_conn.specs.Inbox.{unread, Holds, HoldsWhole}
 use Rattle.hub_conn.specs.Talk.{Rests, Answered, Standing, awaited, state_awaits, held, state_held, tokens, state_tokens, Cause, result_cause, blamed, state_cause, HandsOut, Says, Takes, IsHeld, IsNew, Settles, of_nothing}
-use Rattle.hub_conn.proofs.ReadLemmas.{WholeTakes, reads_begins}
+use Rattle.hub_conn.proofs.ReadLemmas.{WholeTakes}
 use Rattle.hub_conn.proofs.StateLemmas.{stands_in, in_state_of, counts_kept, settles_in}
 use Rattle.hub_conn.proofs.WorkLemmas.{run_kept, undo_kept}
 use Rattle.conn_script.specs.Creating.{no_start}
-use Rattle.hub_conn.proofs.GoLemmas.{front_kept}
+use Rattle.hub_conn.proofs.GoLemmas.{front_kept, whole_some}
 use Rattle.hub_conn.proofs.EndLemmas.{NoneAccepted, unended, read_on_of}
 
 -- ---- wants
@@ -88,6 +88,7 @@ hands_read takes none talk most e most_is = record {
         );
       };
   no_tokens = λ o. absurd o;
+  unblamed = λ same. absurd cc;
   few = λ text same. absurd cc;
   blames = λ result e. absurd cc;
 }
@@ -107,6 +108,7 @@ hands_continue talk sent text e text_is few = record {
         says = says_as (to_write text.now) w own bytes steps written w_is (omega (arith, ap length text_is, length-drop sent (continue_text true), few));
       };
   no_tokens = λ o. absurd o;
+  unblamed = λ same. absurd cc;
   few = λ piece same. let is : text ≡ piece = cc in few_left sent piece.now (ap (λ (b : Bor (List ℕ)). b.now) (sym is) ∙ text_is);
   blames = λ result e. absurd cc;
 }
@@ -124,6 +126,7 @@ hands_write talk out text e text_is = record {
             (min_some PIECE (length x.unsent) (omega arith) x.some));
       };
   no_tokens = λ o. absurd o;
+  unblamed = λ same. absurd cc;
   few = λ piece same.
       let is : text ≡ piece = cc in
       omega (arith, ap length (ap (λ (b : Bor (List ℕ)). b.now) (sym is) ∙ text_is), length-take PIECE (drop out.sent out.bytes), min_most PIECE (length (drop out.sent out.bytes)));
@@ -131,12 +134,13 @@ hands_write talk out text e text_is = record {
 }
 
 -- want of memory in what goes before a request
-begin_broke : (talk : Talk) (own : Option (List ℕ)) (w : Wanted) (bytes : List ℕ) (steps : List Step) (written : List ℕ) → (x : Standing states.Beginning talk own w bytes steps written) →
+begin_broke : WholeTakes → (talk : Talk) (own : Option (List ℕ)) (w : Wanted) (bytes : List ℕ) (steps : List Step) (written : List ℕ) → (x : Standing states.Beginning talk own w bytes steps written) →
     (lacking : List Step) → BegunLacks own lacking → MemoryBroke own bytes (steps ++ lacking) written
-begin_broke talk own w bytes steps written x lacking lacks = record {
+begin_broke takes talk own w bytes steps written x lacking lacks = record {
   requests = x.answered.requests;
   rest = x.rest;
-  begins = reads_begins bytes x.answered.requests x.rest x.answered.reads;
+  begins = x.answered.reads;
+  owes = whole_some takes talk.inbox x.rest x.in_state.1 x.in_state.2.holds;
   responses = x.responses;
   before = x.before;
   scripts = x.answered.scripts;
@@ -148,16 +152,17 @@ begin_broke talk own w bytes steps written x lacking lacks = record {
   steps_are = ap (λ (s : List Step). s ++ lacking) (x.steps_are ∙ ap (λ (s : List Step). x.before ++ s) x.in_state.4 ∙ append-nil x.before);
 }
 
-pub hands_begin : (talk : Talk) → talk.state ≡ states.Beginning → HandsOut talk wants.Begin
-hands_begin talk e = record {
+pub hands_begin : WholeTakes → (talk : Talk) → talk.state ≡ states.Beginning → HandsOut talk wants.Begin
+hands_begin takes talk e = record {
   readies = awaits_in talk states.Beginning begun e refl;
   tells = λ own w bytes steps written st.
       let x = in_state_of talk states.Beginning own w bytes steps written e st in
       let w_is : w ≡ to_begin = x.in_state.3 in record {
         shows = w_is;
-        says = says_as to_begin w own bytes steps written w_is (λ lacking lacks. begin_broke talk own w bytes steps written x lacking lacks);
+        says = says_as to_begin w own bytes steps written w_is (λ lacking lacks. begin_broke takes talk own w bytes steps written x lacking lacks);
       };
   no_tokens = λ o. absurd o;
+  unblamed = λ same. blamed_in talk states.Beginning of_nothing e refl;
   few = λ text same. absurd cc;
   blames = λ result e. absurd cc;
 }
@@ -200,6 +205,7 @@ hands_run talk run whole want e asks of = record {
         says = says_nothing want w own bytes steps written shows asks.of_script;
       };
   no_tokens = λ o. absurd (no_end want asks.of_script o);
+  unblamed = λ same. absurd (subst IsScriptWant same asks.of_script);
   few = λ text same. absurd (subst IsScriptWant same asks.of_script);
   blames = λ result end. absurd (subst IsScriptWant end asks.of_script);
 }
@@ -220,6 +226,7 @@ hands_undo talk fault u want e asks = record {
         says = says_nothing want w own bytes steps written shows asks.of_script;
       };
   no_tokens = λ o. absurd (no_end want asks.of_script o);
+  unblamed = λ same. absurd (subst IsScriptWant same asks.of_script);
   few = λ text same. absurd (subst IsScriptWant same asks.of_script);
   blames = λ result end. absurd (subst IsScriptWant end asks.of_script);
 }
@@ -233,6 +240,7 @@ hands_done talk result e = record {
         says = says_as (over result) w own bytes steps written x.0 x.1;
       };
   no_tokens = λ o. tokens_in talk (states.Done result) [] e refl;
+  unblamed = λ same. absurd cc;
   few = λ text same. absurd cc;
   blames = λ r same. let is : result ≡ r = cc in ap result_cause (sym is) ∙ sym (blamed_in talk (states.Done result) (result_cause result) e refl);
 }

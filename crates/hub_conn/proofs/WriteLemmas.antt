@@ -24,7 +24,7 @@ use Rattle.hub_conn.specs.declared.talk.Kept.TheVariants as kept
 use Rattle.hub_conn.specs.Conversation.{Scripts, Talked, asked, hub_spent as ends_spent, WriteBroke, in_response, in_words, interim, Words, answer_text}
 use Rattle.hub_conn.specs.Inbox.{Holds, HoldsSome, HoldsWhole, LeavesRest}
 use Rattle.hub_conn.specs.Talk.{SameBut, Rests, EndsUndone, Answered, Standing, Writes, IsWriting, kept_undoes, IsComplete, Keeps, IsBetween, Responds, ThenAfter, StandsNow, SendsBy, SentAll, BreaksOff}
-use Rattle.hub_conn.proofs.ReadLemmas.{WholeTakes, reads_begins, reads_more, begins_more, frames_asked}
+use Rattle.hub_conn.proofs.ReadLemmas.{WholeTakes, reads_more, begins_more, frames_asked}
 use Rattle.hub_conn.proofs.ScriptLemmas.{scripts_more, scripts_last, response_some}
 use Rattle.hub_conn.proofs.StateLemmas.{stands_in, done_stands, counts_kept}
 use Rattle.hub_conn.proofs.EndLemmas.{settled_all}
@@ -52,7 +52,7 @@ response_breaks : (talk : Talk) (own : Option (List ℕ)) (f : Request) (respons
 response_breaks talk own f response bytes behind steps written text k x whole keeps text_is taken left undone is some undoes = record {
   requests = x.answered.requests;
   rest = x.rest;
-  begins = reads_begins bytes x.answered.requests x.rest x.answered.reads;
+  begins = x.answered.reads;
   responses = x.responses;
   before = x.before;
   scripts = x.answered.scripts;
@@ -337,7 +337,7 @@ continue_breaks old sent own w bytes steps written x =
     let r = x.in_state in record {
       requests = x.answered.requests;
       rest = x.rest;
-      begins = reads_begins bytes x.answered.requests x.rest x.answered.reads;
+      begins = x.answered.reads;
       responses = x.responses;
       before = x.before;
       scripts = x.answered.scripts;

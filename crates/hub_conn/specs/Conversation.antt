@@ -46,6 +46,12 @@ BeginsWith bytes [] rest = bytes ≡ rest
 BeginsWith bytes (f ∷ requests) rest =
     (behind : List ℕ) × IsWhole LIMITS bytes f.0 f.1 behind × ((closes f.0 ≡ false) ⊎ (requests ≡ [])) × BeginsWith behind requests rest
 
+-- the bytes begin with these requests, none of which closes, and then rest
+abbrev pub ReadsTo : List ℕ → List Request → List ℕ → Type 0
+ReadsTo bytes [] rest = bytes ≡ rest
+ReadsTo bytes (f ∷ requests) rest =
+    (behind : List ℕ) × IsWhole LIMITS bytes f.0 f.1 behind × (closes f.0 ≡ false) × ReadsTo behind requests rest
+
 -- whether the client of a request at the front waits for `100 Continue`: its head is accepted and says so
 pub record Waits (rest : List ℕ) (waits : Bool) : Type 0 where
   pub accepted : (h : RequestHead) → IsAccepted LIMITS rest h → waits ≡ expects LIMITS h
@@ -97,11 +103,11 @@ pub data Breaks (own : Option (List ℕ)) (rest : List ℕ) : List Step → List
       0 < length unwritten → Undoes response undone →
       Breaks own rest (mine ++ undone) (continue_text (expects LIMITS f.0) ++ taken)
 
--- a write failed: what was taken is a front
+-- a write failed: what was taken is a front, and behind a request that closes nothing is written
 pub record WriteBroke (own : Option (List ℕ)) (bytes : List ℕ) (steps : List Step) (written : List ℕ) : Type 0 where
   pub requests : List Request
   pub rest : List ℕ
-  pub begins : BeginsWith bytes requests rest
+  pub begins : ReadsTo bytes requests rest
   pub responses : List ℕ
   pub before : List Step
   pub scripts : Scripts own requests before responses false
@@ -118,11 +124,13 @@ pub data LacksBehind (own : Option (List ℕ)) (rest : List ℕ) : List Step →
   in_request : (f : Request) (behind : List ℕ) (begun steps : List Step) → IsWhole LIMITS rest f.0 f.1 behind → Begun own begun →
       Lacks f steps → LacksBehind own rest (begun ++ steps)
 
--- memory was wanted: what was written ends with a whole response or a whole `100 Continue`
+-- Memory was wanted: what was written ends with a whole response or a whole `100 Continue`. It is wanted for bytes that no answered
+-- request holds, and no request that was answered closes: behind the last response, or where nothing is left to answer, it never is.
 pub record MemoryBroke (own : Option (List ℕ)) (bytes : List ℕ) (steps : List Step) (written : List ℕ) : Type 0 where
   pub requests : List Request
   pub rest : List ℕ
-  pub begins : BeginsWith bytes requests rest
+  pub begins : ReadsTo bytes requests rest
+  pub owes : 0 < length rest
   pub responses : List ℕ
   pub before : List Step
   pub scripts : Scripts own requests before responses false

@@ -4,7 +4,7 @@ use Rattle.std.specs.Borrow.{Bor}
 use Rattle.http_frames.specs.declared.FrameFault.{FrameFault}
 use Rattle.http_frames.specs.declared.frames.TheConstants.{LIMITS}
 use Rattle.http_frames.specs.Frames as on
-use Rattle.http_frames.specs.Frames.{Request, IsWhole, IsRefused, closes, expects}
+use Rattle.http_frames.specs.Frames.{Request, IsRefused, closes, expects}
 use Rattle.grid_outside.specs.Exchanges.{is_within}
 use Rattle.node_client.specs.Held.{Token}
 use Rattle.node_client.specs.Steps.{Step, met_want}
@@ -42,7 +42,7 @@ use Rattle.hub_conn.specs.declared.talk.Then.{Then}
 use Rattle.hub_conn.specs.declared.talk.Then.TheVariants as after
 use Rattle.hub_conn.specs.declared.talk.Kept.{Kept}
 use Rattle.hub_conn.specs.declared.talk.Kept.TheVariants as kept
-use Rattle.hub_conn.specs.Conversation.{WriteBroke, Answers, Scripts, Waits, Talked, Finished, IsUnended}
+use Rattle.hub_conn.specs.Conversation.{WriteBroke, Answers, Scripts, ReadsTo, Waits, Talked, Finished, IsUnended}
 use Rattle.hub_conn.specs.Inbox.{unread, keeps_bytes, most_read, Holds, HoldsSome, HoldsWhole}
 use Rattle.hub_conn.specs.Work.{FeedsLess, KeepsWork}
 
@@ -72,11 +72,6 @@ result_cause (Ok served) = end_cause served.end
 -- ---- what a value stands for
 
 -- requests that were answered, none of which closes, and the bytes behind them
-abbrev pub ReadsTo : List ℕ → List Request → List ℕ → Type 0
-ReadsTo bytes [] rest = bytes ≡ rest
-ReadsTo bytes (f ∷ requests) rest =
-    (behind : List ℕ) × IsWhole LIMITS bytes f.0 f.1 behind × (closes f.0 ≡ false) × ReadsTo behind requests rest
-
 pub record Answered (own : Option (List ℕ)) (frames : ℕ) (bytes rest : List ℕ) (steps : List Step) (responses : List ℕ) : Type 0 where
   pub requests : List Request
   pub reads : ReadsTo bytes requests rest
@@ -315,12 +310,13 @@ pub record Tells (want : Want) (own : Option (List ℕ)) (w : Wanted) (bytes : L
   pub shows : Shows want w
   pub says : Says w own bytes steps written
 
--- a want is told
+-- A want is told. Before a request, and so wherever a driver can be out of memory by itself, nothing outside is blamed.
 pub record HandsOut (talk : Talk) (want : Want) : Type 0 where
   pub readies : Readies want (awaited talk) (held talk)
   pub tells : (own : Option (List ℕ)) (w : Wanted) (bytes : List ℕ) (steps : List Step) (written : List ℕ) →
       Stands talk own w bytes steps written → Tells want own w bytes steps written
   pub no_tokens : IsOver want → tokens talk ≡ []
+  pub unblamed : want ≡ wants.Begin → blamed talk ≡ of_nothing
   pub few : (text : Bor (List ℕ)) → want ≡ wants.Write text → length text.now ≤ PIECE
   pub blames : (result : Result Served ConnFault) → want ≡ wants.Done result → result_cause result ≡ blamed talk
 

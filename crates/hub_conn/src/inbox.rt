@@ -1,5 +1,5 @@
 //! The bytes that came on the connection and are not answered yet.
-ghost use Rattle.std.specs.Prelude.{◌≡◌, ◌≤◌, ◌<◌, ◌++◌, ℕ, List, [], ◌∷◌, true, false, length, drop, OnOk};
+ghost use Rattle.std.specs.Prelude.{◌≡◌, ◌≤◌, ◌<◌, ◌++◌, ℕ, List, [], ◌∷◌, true, false, length, drop, OnErr, OnOk};
 ghost use Rattle.http_frames.specs.Frames.{Request};
 ghost use Rattle.http_frames.specs.FrameSteps.{HasParts};
 ghost use Rattle.http_frames.specs.Feeding.{awaits_more};
@@ -72,25 +72,30 @@ impl Inbox {
         self.reader.kept().saturating_add(self.piece.len() as u64)
     }
 
-    /// Puts a piece behind the bytes, all of which were read.
+    /// Puts a piece behind the bytes, all of which were read. An empty one takes no memory.
     pub fn add(&mut self, piece: &[u8]) -> Result<(), NoMemory>
         requires read { unread self.old ≡ [] }
         requires fits { length piece.now ≤ PIECE }
         requires holds { HoldsSome self.old }
-        ensures { OnOk result ((bytes : List ℕ) → Holds self.old bytes → Holds self.new (bytes ++ piece.now)) }
+        ensures holds { OnOk result ((bytes : List ℕ) → Holds self.old bytes → Holds self.new (bytes ++ piece.now)) }
+        ensures some { OnErr result (0 < length piece.now) }
     {
         self.piece.drain(..self.fed);
         self.fed = 0;
+        if piece.is_empty() {
+            return Ok(());
+        }
         match self.piece.extend_from_slice(piece) {
             Ok(()) => Ok(()),
             Err(_) => Err(NoMemory),
         }
     }
 
-    /// Reads on, to the end of the request at the front or of the bytes.
+    /// Reads on, to the end of the request at the front or of the bytes. Where all bytes were read it takes no memory.
     pub fn fill(&mut self) -> Result<(), NoMemory>
         requires { HoldsSome self.old }
-        ensures { OnOk result (IsFilled self.new × ((bytes : List ℕ) → Holds self.old bytes → Holds self.new bytes)) }
+        ensures fills { OnOk result (IsFilled self.new × ((bytes : List ℕ) → Holds self.old bytes → Holds self.new bytes)) }
+        ensures some { OnErr result (0 < length (unread self.old)) }
     {
         while self.reads_on() {
             let rest = behind(self.piece.as_slice(), self.fed);

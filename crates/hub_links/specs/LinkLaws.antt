@@ -46,11 +46,11 @@ rose_after : (a b c : ℕ) → Rose a b → b ≤ c → Rose a c
 rose_after a b c (inl lt) le = inl (omega (arith, le, lt))
 rose_after a b c (inr top) le = inr (omega (arith, le, top))
 
-rose_first : (cause : Cause) (k l m : LinkView) (bytes written : List ℕ) → Moved k bytes written l → RoseFor cause l m → RoseFor cause k m
-rose_first of_read k l m bytes written p rose = rose_before k.read_faults l.read_faults m.read_faults p.read_faults rose
-rose_first of_write k l m bytes written p rose = rose_before k.write_faults l.write_faults m.write_faults p.write_faults rose
-rose_first of_end k l m bytes written p rose = rose_before k.ends l.ends m.ends p.ends rose
-rose_first of_nothing k l m bytes written p rose = tt
+rose_first : (cause : Cause) (k l m : LinkView) (bytes written : List ℕ) → Moved k bytes written l → l.ends ≡ k.ends → RoseFor cause l m → RoseFor cause k m
+rose_first of_read k l m bytes written p none rose = rose_before k.read_faults l.read_faults m.read_faults p.read_faults rose
+rose_first of_write k l m bytes written p none rose = rose_before k.write_faults l.write_faults m.write_faults p.write_faults rose
+rose_first of_end k l m bytes written p none rose = rose_before k.ends l.ends m.ends p.ends rose
+rose_first of_nothing k l m bytes written p none rose = rose ∙ none
 
 -- what was blamed stays blamed, and else what the answer tells is
 pub caused_on : (cause : Cause) (answer : Answer) (k l m : LinkView) (bytes written more again : List ℕ) → Moved k bytes written l → Moved l more again m →
@@ -58,7 +58,7 @@ pub caused_on : (cause : Cause) (answer : Answer) (k l m : LinkView) (bytes writ
 caused_on of_read answer k l m bytes written more again p q rose next = rose_after k.read_faults l.read_faults m.read_faults rose q.read_faults
 caused_on of_write answer k l m bytes written more again p q rose next = rose_after k.write_faults l.write_faults m.write_faults rose q.write_faults
 caused_on of_end answer k l m bytes written more again p q rose next = rose_after k.ends l.ends m.ends rose q.ends
-caused_on of_nothing answer k l m bytes written more again p q rose next = rose_first (cause_of answer) k l m bytes written p next
+caused_on of_nothing answer k l m bytes written more again p q rose next = rose_first (cause_of answer) k l m bytes written p rose next
 
 -- ---- answers to a read or to a write
 

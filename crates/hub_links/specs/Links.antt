@@ -1,5 +1,5 @@
 -- What a link tells, and how that goes on.
-use Rattle.std.specs.Prelude.{ℕ, ◌<◌, ◌≤◌, List, length, Option}
+use Rattle.std.specs.Prelude.{◌≡◌, ℕ, ◌<◌, ◌≤◌, List, length, Option}
 use Rattle.grid_outside.specs.Counts.{Rose}
 use Rattle.grid_outside.specs.Told.{Gains}
 use Rattle.conn_script.specs.declared.wants.Answer.{Answer}
@@ -27,12 +27,12 @@ pub record Moved (old : LinkView) (bytes written : List ℕ) (new : LinkView) : 
   pub write_faults : old.write_faults ≤ new.write_faults
   pub ends : old.ends ≤ new.ends
 
--- the count of what is blamed rose
+-- The count of what is blamed rose. Where nothing outside is blamed, the end of the input was not read.
 abbrev pub RoseFor : Cause → LinkView → LinkView → Type 0
 RoseFor of_read old new = Rose old.read_faults new.read_faults
 RoseFor of_write old new = Rose old.write_faults new.write_faults
 RoseFor of_end old new = Rose old.ends new.ends
-RoseFor of_nothing old new = Unit {0}
+RoseFor of_nothing old new = new.ends ≡ old.ends
 
 -- what came of a read or of a write, with these bytes given or taken
 pub record DoesLink (answer : Answer) (awaited : Awaited) (old : LinkView) (bytes written : List ℕ) (new : LinkView) : Type 0 where

@@ -132,7 +132,8 @@ fn serve_to_end<R: Wait, L: Link, N: NodeLink, C: Clock>(
 /// with all that the pass had seen; a session may also be found by the published map.
 ///
 /// It waits as long as the link, the nodes and the turns of other passes do. Err tells that a read or a write failed, or that
-/// memory was wanted where no response tells it. A session that was created for a response that can't be written is ended.
+/// memory was wanted where no response tells it: for bytes that no answered request holds, on a connection that neither a request nor
+/// the end of input had ended. A session that was created for a response that can't be written is ended.
 pub fn serve_shared<R: Wait, L: Link, N: NodeLink, C: Clock>(
     rt: &R,
     alloc: Global,
@@ -153,6 +154,7 @@ pub fn serve_shared<R: Wait, L: Link, N: NodeLink, C: Clock>(
     ensures sees { SeesOn (config_of hub.now) (knows pass.old) (knows pass.new) }
     ensures read { result ≡ Err ConnFault.Read → Rose (L.read_faults link.old) (L.read_faults link.new) }
     ensures write { result ≡ Err ConnFault.Write → Rose (L.write_faults link.old) (L.write_faults link.new) }
+    ensures memory { result ≡ Err ConnFault.Memory → L.ends link.new ≡ L.ends link.old }
     ensures ended { IfOk result (λ served. RoseFor (end_cause served.end)
         (link_of (L.given link.old) (L.taken link.old) (L.read_faults link.old) (L.write_faults link.old) (L.ends link.old))
         (link_of (L.given link.new) (L.taken link.new) (L.read_faults link.new) (L.write_faults link.new) (L.ends link.new))) }

@@ -33,6 +33,9 @@ told_read result l m rose e = subst (λ (r : Result Served ConnFault). RoseFor (
 pub told_write : (result : Result Served ConnFault) (l m : LinkView) → RoseFor (result_cause result) l m → result ≡ Err faults.Write → Rose l.write_faults m.write_faults
 told_write result l m rose e = subst (λ (r : Result Served ConnFault). RoseFor (result_cause r) l m) e rose
 
+pub told_memory : (result : Result Served ConnFault) (l m : LinkView) → RoseFor (result_cause result) l m → result ≡ Err faults.Memory → m.ends ≡ l.ends
+told_memory result l m rose e = subst (λ (r : Result Served ConnFault). RoseFor (result_cause r) l m) e rose
+
 pub told_end : (result : Result Served ConnFault) (l m : LinkView) → RoseFor (result_cause result) l m → IfOk result (λ served. RoseFor (end_cause served.end) l m)
 told_end (Ok served) l m rose = rose
 told_end (Err fault) l m rose = tt
@@ -64,7 +67,7 @@ module _ {N : Type 0} (gives : N → List ℕ → Ask → Came → N → Type 0)
     has = subst (λ (ts : List Token). HasAll (past o.world.hub) ts) (sym new.no_tokens) tt;
     early = λ e. absurd (never e);
     within = within;
-    caused = subst (λ (c : Cause). RoseFor c o.link o.link) (sym new.blames) tt;
+    caused = subst (λ (c : Cause). RoseFor c o.link o.link) (sym new.blames) refl;
   }
     where
       never : false ≡ true → ⊥

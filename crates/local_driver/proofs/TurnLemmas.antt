@@ -216,7 +216,7 @@ module _ {N : Type 0} (gives : N → List ℕ → Ask → Came → N → Type 0)
           let none = laws.none_held talk (Some own) to_begin s.bytes s.steps s.written (stands_as first talk (outside_of v l) to_begin s e) in
           fed first (outside_of v l) (outside_of w l) talk talk new told.Begun way.steps [] [] s s.stands refl feeds (subst (λ (x : Wanted). Fits told.Begun x) (sym e) tt)
           (subst (λ (x : Wanted). Made (Some own) told.Begun x way.steps) (sym e) way.are) refl (ap (taken_of told.Begun) e)
-          (onward_world gives v w l way.steps way.went) tt
+          (onward_world gives v w l way.steps way.went) refl
           (subst (λ (ts : List Token). HasAll (past w.hub) ts) (sym (feeds.keeps.0 refl ∙ none)) tt)
           (λ h. absurd (never (sym (last_late false s.steps way.steps (λ b. begins_late own b way.steps way.are)) ∙ h)))
           (none_more s.bytes s.within)
@@ -236,7 +236,7 @@ module _ {N : Type 0} (gives : N → List ℕ → Ask → Came → N → Type 0)
               (subst (λ (xs : List ℕ). Onward gives first (s.bytes ++ []) (s.steps ++ way.steps) xs (outside_of w l)) (append-nil s.written) onward);
           within = s.within;
         },
-        tt,
+        subst (λ (c : Cause). RoseFor c first.link l) (hands.unblamed is) s.caused,
       )
 
   -- ---- nodes and pauses
@@ -249,7 +249,7 @@ module _ {N : Type 0} (gives : N → List ℕ → Ask → Came → N → Type 0)
       (Exchanged address (ask_of request) came ∷ []) [] [] s
       (subst (λ (y : Want). Shows y s.want) is (shown first talk (outside_of (world_of h n m pauses) l) want s hands)) feeds tt refl refl refl (refl, refl)
       (onward_world gives (world_of h n m pauses) (world_of h n' m pauses) l (Exchanged address (ask_of request) came ∷ [])
-      (went_exchange gives h n n' address (ask_of request) came m pauses gave)) tt refl
+      (went_exchange gives h n n' address (ask_of request) came m pauses gave)) refl refl
       (λ e. absurd (never (sym (one_last false s.steps (Exchanged address (ask_of request) came)) ∙ e))) (none_more s.bytes s.within)
 
   pub pause_turn : (talk new : Talk) (want : Want) (ms : ℕ) (h : HubView) (n : N) (m m' : ℕ) (pauses pauses' : Option Pauses) (l : LinkView) →
@@ -258,7 +258,7 @@ module _ {N : Type 0} (gives : N → List ℕ → Ask → Came → N → Type 0)
   pause_turn talk new want ms h n m m' pauses pauses' l hands is feeds long told_so = λ first s.
       plain_fed first (outside_of (world_of h n m pauses) l) (outside_of (world_of h n m' pauses') l) talk new told.Paused (to_pause ms) (Paused ms ∷ []) [] [] s
       (subst (λ (y : Want). Shows y s.want) is (shown first talk (outside_of (world_of h n m pauses) l) want s hands)) feeds tt refl refl refl (refl, refl)
-      (onward_world gives (world_of h n m pauses) (world_of h n m' pauses') l (Paused ms ∷ []) (went_pause gives h n ms m m' pauses pauses' long told_so)) tt refl
+      (onward_world gives (world_of h n m pauses) (world_of h n m' pauses') l (Paused ms ∷ []) (went_pause gives h n ms m m' pauses pauses' long told_so)) refl refl
       (λ e. absurd (never (sym (one_last false s.steps (Paused ms)) ∙ e))) (none_more s.bytes s.within)
 
   -- ---- a call
@@ -322,7 +322,7 @@ module _ {N : Type 0} (gives : N → List ℕ → Ask → Came → N → Type 0)
       (ap (taken_of (told.Hub answer)) t.0)
       (onward_world gives (world_of h n m pauses) (world_of k n m' pauses') l (call_step answer (call_of call) at ∷ [])
       (subst (λ (step : Step). Went gives (world_of h n m pauses) (step ∷ []) (world_of k n m' pauses')) (sym is_step)
-      (went_call gives h k n (call_of call) at (reply_of answer) m m' pauses pauses' (record { config = made.serves.config; answers = made.serves.answers }) ticks))) tt
+      (went_call gives h k n (call_of call) at (reply_of answer) m m' pauses pauses' (record { config = made.serves.config; answers = made.serves.answers }) ticks))) refl
       (subst (λ (ts : List Token). HasAll (past k) ts) (sym (feeds.keeps.0 made.unspent))
       (held_after newest starts early h k at is_legal (call_of call) answer (tokens mid) made (has_left (past h) (call_tokens (call_of call)) (tokens mid) all)
       (has_right (past h) (call_tokens (call_of call)) (tokens mid) all)

@@ -157,7 +157,8 @@ fn serve_to_end<L: Link, N: NodeLink, C: Clock>(
 /// these calls.
 ///
 /// It always ends, as far as the calls of the link, the nodes and the clock do. Err tells that a read or a write failed, or that memory
-/// was wanted where no response tells it. A session that was created for a response that can't be written is ended.
+/// was wanted where no response tells it: for bytes that no answered request holds, on a connection that neither a request nor the end of
+/// input had ended. A session that was created for a response that can't be written is ended.
 pub fn serve_local<L: Link, N: NodeLink, C: Clock>(
     alloc: Global,
     hub: &mut LocalHub,
@@ -175,6 +176,7 @@ pub fn serve_local<L: Link, N: NodeLink, C: Clock>(
     ensures legal { legal hub.new.config (past hub.new) ≡ true }
     ensures read { result ≡ Err ConnFault.Read → Rose (L.read_faults link.old) (L.read_faults link.new) }
     ensures write { result ≡ Err ConnFault.Write → Rose (L.write_faults link.old) (L.write_faults link.new) }
+    ensures memory { result ≡ Err ConnFault.Memory → L.ends link.new ≡ L.ends link.old }
     ensures ended { IfOk result (λ served. RoseFor (end_cause served.end)
         (link_of (L.given link.old) (L.taken link.old) (L.read_faults link.old) (L.write_faults link.old) (L.ends link.old))
         (link_of (L.given link.new) (L.taken link.new) (L.read_faults link.new) (L.write_faults link.new) (L.ends link.new))) }

@@ -23,8 +23,10 @@ pub const CREATED: &str =
 /// What nearly each New Session asks for.
 pub const CHROME: &str = "{\"capabilities\":{\"alwaysMatch\":{\"browserName\":\"chrome\"}}}";
 
+/// A New Session for Firefox.
 pub const FIREFOX: &str = "{\"capabilities\":{\"alwaysMatch\":{\"browserName\":\"firefox\"}}}";
 
+/// A success without a value.
 pub const NOTHING: &str = "{\"value\":null}";
 
 /// The words as texts.

@@ -6,7 +6,7 @@ use Rattle.hub_conn.proofs.WorkLemmas.{done_leaves}
 use Rattle.hub_conn.proofs.talk.Talk.look.Goals as goal
 
 pub returns-in-Err-clause-looks : goal.returns-in-Err-clause-looks
-returns-in-Err-clause-looks c = look_broke c.args.self.now c.fail.new.self c.fail.ensures
+returns-in-Err-clause-looks c = look_broke c.args.self.now c.fail.new.self c.in-Err.ensures.some c.fail.ensures
 
 pub returns-in-Err-clause-settles : goal.returns-in-Err-clause-settles
 returns-in-Err-clause-settles c = done_settles c.fail.new.self (Err faults.Memory) c.fail.ensures

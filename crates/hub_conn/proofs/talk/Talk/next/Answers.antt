@@ -24,7 +24,7 @@ returns-in-Running c =
     hands_run c.args.self.now c.in-Running.run' c.whole.result c.wanted.result c.in-Running.is c.wanted.ensures (λ rest f x. c.whole.ensures rest f x)
 
 pub returns-in-Beginning : goal.returns-in-Beginning
-returns-in-Beginning c = hands_begin c.args.self.now c.in-Beginning.is
+returns-in-Beginning c = hands_begin (λ limits buf h parts behind x. c.stays.ensures.some limits buf h parts behind x) c.args.self.now c.in-Beginning.is
 
 pub returns-in-Done : goal.returns-in-Done
 returns-in-Done c = hands_done c.args.self.now c.in-Done.result c.in-Done.is

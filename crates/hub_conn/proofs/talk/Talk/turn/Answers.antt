@@ -78,7 +78,8 @@ returns-in-Undo-clause-goes c = λ own bytes steps written y.
     let x = subst (λ (z : Turn). IsTurned old own bytes steps written z) c.in-Undo.is y in
     let r = x.turns in
     c.undo.ensures.ends own bytes steps written (λ undone z.
-    broke (λ limits buf more h parts behind w. c.stays.ensures.whole limits buf more h parts behind w) old t own bytes steps undone written x
+    broke (λ limits buf more h parts behind w. c.stays.ensures.whole limits buf more h parts behind w)
+    (λ limits buf h parts behind w. c.stays.ensures.some limits buf h parts behind w) old t own bytes steps undone written x
     (behind_all (x.mine ++ x.made) undone (created c.in-Undo.session r.0 c.in-Undo.binding) r.1 z))
 
 pub returns-in-Undo-clause-settles : goal.returns-in-Undo-clause-settles
@@ -90,7 +91,8 @@ returns-in-Lacks-clause-goes c = λ own bytes steps written y.
     let old = c.args.self.now in
     let x = subst (λ (z : Turn). IsTurned old own bytes steps written z) c.in-Lacks.is y in
     done_stands c.fail.new.self (Err faults.Memory) own bytes steps written c.fail.ensures
-    (broke_now (λ limits buf more h parts behind w. c.stays.ensures.whole limits buf more h parts behind w) old turn.Lacks own bytes steps written x x.turns)
+    (broke_now (λ limits buf more h parts behind w. c.stays.ensures.whole limits buf more h parts behind w)
+    (λ limits buf h parts behind w. c.stays.ensures.some limits buf h parts behind w) old turn.Lacks own bytes steps written x x.turns)
 
 pub returns-in-Lacks-clause-settles : goal.returns-in-Lacks-clause-settles
 returns-in-Lacks-clause-settles c =
