@@ -7,3 +7,5 @@ mod entries;
 mod plays;
 #[cfg(test)]
 mod verdicts;
+#[cfg(test)]
+mod words;

@@ -17,5 +17,5 @@ mod telling;
 mod verdict;
 
 pub use checking::check;
-pub use telling::run_check;
+pub use telling::{NO_MEMORY, WRITE_FAILED, run_check, write_all};
 pub use verdict::{CheckFault, Verdict};

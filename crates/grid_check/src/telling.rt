@@ -13,14 +13,14 @@ use std::alloc::Global;
 /// A read failed.
 const READ_FAILED: u8 = 5;
 
-/// A write failed.
-const WRITE_FAILED: u8 = 6;
+/// The status where a write failed.
+pub const WRITE_FAILED: u8 = 6;
 
-/// Memory was wanted and there was none.
-const NO_MEMORY: u8 = 7;
+/// The status where memory was wanted and there was none.
+pub const NO_MEMORY: u8 = 7;
 
 /// Writes all bytes, or up to the first write that fails.
-fn write_all<K: Sink>(output: &mut K, bytes: &[u8]) -> Result<(), Failed>
+pub fn write_all<K: Sink>(output: &mut K, bytes: &[u8]) -> Result<(), Failed>
     ensures ok { OnOk result (Gains (K.taken output.old) (K.taken output.new) bytes.now) }
     ensures err { OnErr result (TookFront (K.taken output.old) (K.taken output.new) bytes.now) }
     ensures cause { HasCause (K.faults output.old) (K.faults output.new) result }

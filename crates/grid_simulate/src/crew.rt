@@ -200,8 +200,8 @@ fn join(
     enroll(alloc, hub, nodes, i, browser, slots, refuses)
 }
 
-/// How the hub is set up.
-fn config() -> HubConfig
+/// How the hub of a simulation is set up.
+pub fn simulated_config() -> HubConfig
     ensures is { result ≡ simulated_config }
     ensures valid { IsValid result }
 {
@@ -237,7 +237,7 @@ impl Simulation {
         ensures sound { IfOk result (λ s. IsSound s) }
         ensures moment { IfOk result (λ s. s.moment ≡ 0) }
     {
-        let mut hub = LocalHub::new(alloc, config())?;
+        let mut hub = LocalHub::new(alloc, simulated_config())?;
         let mut nodes = LoopList::new(alloc);
         let mut drawn = number;
         for i in 0..CREW {

@@ -12,6 +12,7 @@ mod text;
 mod top;
 mod writing;
 
+pub use crew::simulated_config;
 pub use summary::Summary;
 pub use text::summary_text;
 pub use top::{Simulated, simulate};

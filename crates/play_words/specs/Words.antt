@@ -38,9 +38,13 @@ pub record Plays (words : List (List ℕ)) (config : HubConfig) (nodes : List Pl
   pub timeout_is : SaysTimeout timeout config.timeout_ms
   pub others : config ≡ record default_config { timeout_ms = config.timeout_ms; reject_unsupported = config.reject_unsupported }
 
+-- a name and a number
+abbrev pub IsNumbered : List (List ℕ) → List ℕ → ℕ → Type 0
+IsNumbered words name number = words ≡ name ∷ decimal number ∷ []
+
 -- `simulate` and a number
 abbrev pub IsSimulate : List (List ℕ) → ℕ → Type 0
-IsSimulate words number = words ≡ codes "simulate" ∷ decimal number ∷ []
+IsSimulate words number = IsNumbered words (codes "simulate") number
 
 -- the two plays that some words say are one
 pub record SamePlay (c d : HubConfig) (nodes others : List PlayNode) : Type 0 where

@@ -11,4 +11,4 @@ mod words;
 
 pub use laws::words_say_one_play;
 pub use play::{PlayNode, PlayNodes, PlayWords, WordsFault};
-pub use words::{read_play, read_simulate};
+pub use words::{read_numbered, read_play, read_simulate};

@@ -3,7 +3,7 @@ ghost use Rattle.std.specs.Prelude.{◌≡◌, ◌<◌, ◌^◌, ℕ, List, IfOk
 ghost use Rattle.std.specs.Option.{option_copied};
 ghost use Rattle.grid_types.specs.declared.config.HubConfig.{HubConfig};
 ghost use Rattle.play_words.specs.declared.play.PlayNode.{PlayNode};
-ghost use Rattle.play_words.specs.Words.{Plays, IsSimulate, SaysCrew};
+ghost use Rattle.play_words.specs.Words.{Plays, IsNumbered, IsSimulate, SaysCrew};
 ghost use Rattle.play_words.specs.Options.{AreParts};
 
 use crate::nodes::{are_nodes, read_nodes};
@@ -102,16 +102,24 @@ pub fn read_play(alloc: Global, words: &[Text]) -> Result<PlayWords, WordsFault>
     }
 }
 
-/// The number of the words `simulate` and a decimal number below 2^64, without a sign or a leading zero.
+/// The number of two words: a name, and a decimal number below 2^64 without a sign or a leading zero.
+pub fn read_numbered(words: &[Text], name: &str) -> Option<u64>
+    ensures some { IfSome result (λ number. IsNumbered words.now name.now number) }
+    ensures none { IfNone result ((number : ℕ) → number < 2 ^ 64 → ¬ IsNumbered words.now name.now number) }
+{
+    let [first, number] = words else {
+        return None;
+    };
+    if first.as_str() != name {
+        return None;
+    }
+    large_number_of(number.as_str())
+}
+
+/// The number of the words `simulate` and a number. See [`read_numbered`].
 pub fn read_simulate(words: &[Text]) -> Option<u64>
     ensures some { IfSome result (λ number. IsSimulate words.now number) }
     ensures none { IfNone result ((number : ℕ) → number < 2 ^ 64 → ¬ IsSimulate words.now number) }
 {
-    let [simulate, number] = words else {
-        return None;
-    };
-    if simulate.as_str() != "simulate" {
-        return None;
-    }
-    large_number_of(number.as_str())
+    read_numbered(words, "simulate")
 }

@@ -11,7 +11,7 @@ use Rattle.grid_simulate.proofs.simulation.Simulation.new.Goals as goal
 
 pub loop-i-init : goal.loop-i-init
 loop-i-init c = record {
-  config = ap (λ (h : HubView). h.config) c.in_ok-hub.ensures ∙ c.config.ensures.is;
+  config = ap (λ (h : HubView). h.config) c.in_ok-hub.ensures ∙ c.simulated_config.ensures.is;
   come = ap (λ (l : List Node). gathered c.args.number c.in_ok-hub.hub l) c.new-nodes.ensures ∙ ap (λ (h : HubView). gathered c.args.number h []) c.in_ok-hub.ensures ∙ sym (crew_none c.args.number);
 }
 
