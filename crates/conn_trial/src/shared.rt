@@ -3,12 +3,11 @@ ghost use Rattle.hub_cell.specs.Passes.{IsOf};
 
 use crate::bytes::joined;
 use grid_outside::{MemClock, MemLink, MemNodes, MemSink, MemSource, NodeReply, Reply};
-use grid_types::{Bytes, HubConfig, Moment};
+use grid_types::{Bytes, HubConfig, Moment, NoMemory};
 use hub_cell::{Pass, SharedHub};
 use hub_serving::{ConnFault, End, Served, serve_shared};
 use std::alloc::Global;
 use std::sync::Wait;
-use std::test::Fail;
 
 /// A node registers, and a session is created there, used and ended.
 const ASKED: [&[u8]; 4] = [
@@ -47,22 +46,30 @@ fn nodes_of(alloc: Global) -> Option<MemNodes> {
     Some(nodes)
 }
 
-/// Serves the requests over a link that gives five bytes at once and takes seven, and tells how it ended, how many bytes were
-/// written, whether they are a front of the answers, and how often the node was asked.
+/// A link that gives five bytes at once and takes seven.
+fn link_of(alloc: Global, failing: Vec<u64>) -> Option<MemLink> {
+    let asked = joined(alloc, &ASKED).ok()?;
+    let bytes = Bytes::of(alloc, asked.as_slice()).ok()?;
+    let source = MemSource::new(bytes, 5, Vec::new(alloc));
+    Some(MemLink::new(source, MemSink::new(alloc, 7, failing)))
+}
+
+/// How it ended, how many bytes were written, whether they are a front of the answers, and how often the node was asked.
+type Seen = (Result<Served, ConnFault>, usize, bool, usize);
+
+/// Serves the requests.
 fn served<R: Wait>(
     rt: &R,
     alloc: Global,
     hub: &SharedHub,
     pass: &mut Pass,
     failing: Vec<u64>,
-) -> Option<(Result<Served, ConnFault>, usize, bool, usize)>
+) -> Option<Seen>
     requires { IsOf hub.now pass.old }
     ensures { IsOf hub.now pass.new }
 {
-    let asked = joined(alloc, &ASKED).ok()?;
+    let mut link = link_of(alloc, failing)?;
     let answered = joined(alloc, &ANSWERED).ok()?;
-    let source = MemSource::new(Bytes::of(alloc, asked.as_slice()).ok()?, 5, Vec::new(alloc));
-    let mut link = MemLink::new(source, MemSink::new(alloc, 7, failing));
     let mut nodes = nodes_of(alloc)?;
     let mut clock = MemClock::new(Moment(0));
     let ended = serve_shared(rt, alloc, hub, pass, &mut link, &mut nodes, &mut clock);
@@ -70,25 +77,32 @@ fn served<R: Wait>(
     Some((ended, link.taken().len(), is_front, nodes.made().len()))
 }
 
+/// Serves them twice, and the second time some writes fail.
+fn both<R: Wait>(rt: &R, alloc: Global, failing: Vec<u64>) -> Option<(Seen, Seen)> {
+    let (hub, mut pass) = SharedHub::new(rt, alloc, HubConfig::default(), 0, 1).ok()?;
+    let whole = served(rt, alloc, &hub, &mut pass, Vec::new(alloc));
+    let broken = served(rt, alloc, &hub, &mut pass, failing);
+    pass.let_go();
+    hub.close(rt);
+    Some((whole?, broken?))
+}
+
+fn length(alloc: Global) -> Result<usize, NoMemory> {
+    Ok(joined(alloc, &ANSWERED)?.len())
+}
+
 /// The third write fails at the second time, when the node's name is taken.
 #[test]
-fn a_connection_is_served(rt: HostRuntime) -> Result<(), Fail> {
-    let alloc = rt.alloc();
-    let failing = [2].to_vec(alloc)?;
-    let length = joined(alloc, &ANSWERED)?.len();
-    let Ok((hub, mut pass)) = SharedHub::new(&rt, alloc, HubConfig::default(), 0, 1) else {
-        return Err(Fail::from("memory"));
-    };
-    let whole = served(&rt, alloc, &hub, &mut pass, Vec::new(alloc));
-    let broken = served(&rt, alloc, &hub, &mut pass, failing);
-    pass.let_go();
-    hub.close(&rt);
+fn a_connection_is_served(rt: HostRuntime) -> Result<(), NoMemory> {
+    let length = length(rt.alloc())?;
+    let failing = [2].to_vec(rt.alloc())?;
+    let (whole, broken) = both(&rt, rt.alloc(), failing).ok_or(NoMemory)?;
     let all = Served {
         frames: 4,
         end: End::Closed,
         short: false,
     };
-    assert_eq!(rt; whole, Some((Ok(all), length, true, 3)));
-    assert_eq!(rt; broken, Some((Err(ConnFault::Write), 14, false, 0)));
+    assert_eq!(rt; whole, (Ok(all), length, true, 3));
+    assert_eq!(rt; broken, (Err(ConnFault::Write), 14, false, 0));
     Ok(())
 }

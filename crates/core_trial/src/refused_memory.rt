@@ -1,4 +1,5 @@
-//! Calls of the core with ample memory, as a run with failing allocations repeats them.
+//! Calls of the core with ample memory, as a run with failing allocations repeats them: `Fault::Memory` is want of memory, and
+//! what else is not as it should be ends the test.
 ghost use Rattle.std.specs.Prelude.{◌≡◌, true, IfOk};
 ghost use Rattle.grid_types.specs.Permitted.{is_well_sized};
 
@@ -9,11 +10,12 @@ use grid_types::{
 use hub_core::{
     Binding, Dispatched, Enqueued, Failing, HubCore, Polled, Registering, Reservation, Ticket,
 };
+use hub_trial::Fault;
 use std::alloc::Global;
-use std::test::Fail;
+use std::process::Abort;
 
 /// A node of one slot that takes every request.
-fn registration(alloc: Global) -> Result<Registration, Fail>
+fn registration(alloc: Global) -> Result<Registration, Fault>
     ensures { IfOk result (λ r. is_well_sized r ≡ true) }
 {
     let mut groups = Groups::new(alloc);
@@ -23,48 +25,62 @@ fn registration(alloc: Global) -> Result<Registration, Fail>
     };
     match groups.push(group) {
         Ok(()) => {}
-        Err(_) => return Err("no memory".into()),
+        Err(_) => return Err(Fault::Memory),
     }
+    let address = NodeAddress::from_bytes(b"127.0.0.1:1").ok_or(Fault::NotTaken)?;
     Ok(Registration {
-        name: Text::of(alloc, "n").map_err(|_| "no memory")?,
-        address: NodeAddress::from_bytes(b"127.0.0.1:1").ok_or("no address")?,
+        name: Text::of(alloc, "n")?,
+        address,
         max_sessions: 1,
         groups,
         drain_after: None,
     })
 }
 
-fn queued(core: &mut HubCore, alloc: Global, at: Moment) -> Result<Ticket, Fail> {
+/// A core with that node.
+fn with_a_node(rt: &impl Abort, alloc: Global) -> Result<HubCore, Fault> {
+    let config = HubConfig::default();
+    assert!(rt; config.is_valid());
+    let mut core = HubCore::new(alloc, config)?;
+    let registered = core.register(1, registration(alloc)?, Moment(5));
+    assert!(rt; matches!(registered, Registering::Registered(1)));
+    Ok(core)
+}
+
+fn queued(core: &mut HubCore, alloc: Global, at: Moment) -> Result<Ticket, Fault> {
     let Ok(choices) = Choices::one(alloc, Caps::new(alloc)) else {
-        return Err("no memory".into());
+        return Err(Fault::Memory);
     };
     match core.enqueue(1, choices, at) {
         Enqueued::Queued(ticket) => Ok(ticket),
-        _ => Err("not queued".into()),
+        _ => Err(Fault::NoToken),
     }
 }
 
-fn yours(core: &mut HubCore, ticket: Ticket, at: Moment) -> Result<(Ticket, Reservation), Fail> {
+fn yours(core: &mut HubCore, ticket: Ticket, at: Moment) -> Result<(Ticket, Reservation), Fault> {
     match core.poll(1, ticket, at) {
         Polled::Yours(ticket, reservation) => Ok((ticket, reservation)),
-        _ => Err("its turn has not come".into()),
+        _ => Err(Fault::NoToken),
     }
 }
 
-/// Two requests for the one slot: the first gets it and its session is bound, the second waits until its deadline.
-#[test]
-fn a_session_is_created(rt: HostRuntime) -> Result<(), Fail> {
-    let config = HubConfig::default();
-    assert!(rt; config.is_valid());
-    let mut core = HubCore::new(rt.alloc(), config).map_err(|_| "no memory")?;
-    let registered = core.register(1, registration(rt.alloc())?, Moment(5));
-    assert!(rt; matches!(registered, Registering::Registered(1)));
-    let ticket = queued(&mut core, rt.alloc(), Moment(10))?;
-    let other = queued(&mut core, rt.alloc(), Moment(10))?;
-    let (ticket, reservation) = yours(&mut core, ticket, Moment(20))?;
-    assert!(rt; matches!(core.dispatch(2, Moment(21)), Dispatched::Nothing));
-    let session = SessionId::from_bytes(b"a").ok_or("no session id")?;
-    let bound = core.bind(1, reservation, session, Caps::new(rt.alloc()), Moment(30));
+fn assigned(core: &mut HubCore, at: Moment) -> Result<Reservation, Fault> {
+    match core.dispatch(1, at) {
+        Dispatched::Assigned(reservation) => Ok(reservation),
+        _ => Err(Fault::NoToken),
+    }
+}
+
+/// The session is bound to the slot, and the request is told of it.
+fn bound(
+    rt: &impl Abort,
+    core: &mut HubCore,
+    alloc: Global,
+    ticket: Ticket,
+    reservation: Reservation,
+) -> Result<(), Fault> {
+    let session = SessionId::from_bytes(b"a").ok_or(Fault::NotTaken)?;
+    let bound = core.bind(1, reservation, session, Caps::new(alloc), Moment(30));
     assert!(rt; matches!(bound, Binding::Bound(1)));
     let outcome = core.poll(1, ticket, Moment(40));
     assert!(rt;
@@ -73,26 +89,47 @@ fn a_session_is_created(rt: HostRuntime) -> Result<(), Fail> {
             Polled::Settled(Outcome::Created { binding: 1, .. })
         )
     );
-    let late = core.poll(1, other, Moment(10 + config.timeout_ms));
-    assert!(rt; matches!(late, Polled::Settled(Outcome::TimedOut { .. })));
     Ok(())
 }
 
-/// A start that fails on the only node is the last of its request.
+fn late(rt: &impl Abort, core: &mut HubCore, ticket: Ticket) {
+    let at = Moment(10 + HubConfig::default().timeout_ms);
+    let late = core.poll(1, ticket, at);
+    assert!(rt; matches!(late, Polled::Settled(Outcome::TimedOut { .. })));
+}
+
+// Borrows the core, so that no early return drops one.
+fn first_is_bound(
+    rt: &impl Abort,
+    alloc: Global,
+    core: &mut HubCore,
+    ticket: Ticket,
+) -> Result<(), Fault> {
+    let (ticket, reservation) = yours(core, ticket, Moment(20))?;
+    assert!(rt; matches!(core.dispatch(2, Moment(21)), Dispatched::Nothing));
+    bound(rt, core, alloc, ticket, reservation)
+}
+
+fn creates(rt: &impl Abort, alloc: Global, core: &mut HubCore) -> Result<(), Fault> {
+    let ticket = queued(core, alloc, Moment(10))?;
+    let other = queued(core, alloc, Moment(10))?;
+    first_is_bound(rt, alloc, core, ticket)?;
+    late(rt, core, other);
+    Ok(())
+}
+
+/// Two requests for the one slot: the first gets it and its session is bound, the second waits until its deadline.
 #[test]
-fn a_start_fails(rt: HostRuntime) -> Result<(), Fail> {
-    let config = HubConfig::default();
-    assert!(rt; config.is_valid());
-    let mut core = HubCore::new(rt.alloc(), config).map_err(|_| "no memory")?;
-    let registered = core.register(1, registration(rt.alloc())?, Moment(5));
-    assert!(rt; matches!(registered, Registering::Registered(1)));
-    let ticket = queued(&mut core, rt.alloc(), Moment(10))?;
-    let reservation = match core.dispatch(1, Moment(11)) {
-        Dispatched::Assigned(reservation) => reservation,
-        _ => return Err("nothing was assigned".into()),
-    };
+fn a_session_is_created(rt: HostRuntime) -> Result<(), Fault> {
+    let mut core = with_a_node(&rt, rt.alloc())?;
+    creates(&rt, rt.alloc(), &mut core)
+}
+
+fn fails(rt: &impl Abort, alloc: Global, core: &mut HubCore) -> Result<(), Fault> {
+    let ticket = queued(core, alloc, Moment(10))?;
+    let reservation = assigned(core, Moment(11))?;
     let failed = core.fail(1, reservation, FailWhy::Unreachable, Moment(12));
-    assert_eq!(rt; failed, Failing::Refused);
+    assert!(rt; failed == Failing::Refused);
     let outcome = core.poll(1, ticket, Moment(13));
     assert!(rt;
         matches!(
@@ -101,4 +138,11 @@ fn a_start_fails(rt: HostRuntime) -> Result<(), Fail> {
         )
     );
     Ok(())
+}
+
+/// A start that fails on the only node is the last of its request.
+#[test]
+fn a_start_fails(rt: HostRuntime) -> Result<(), Fault> {
+    let mut core = with_a_node(&rt, rt.alloc())?;
+    fails(&rt, rt.alloc(), &mut core)
 }

@@ -12,23 +12,31 @@ pub enum Told {
     Raw(&'static str),
 }
 
+/// The status line of a success.
 pub const OK: &str = "200 OK";
 
+/// The status line of a request with a fault.
 pub const BAD: &str = "400 Bad Request";
 
+/// The status line of what is not there.
 pub const MISSING: &str = "404 Not Found";
 
+/// The status line of what the hub could not do.
 pub const FAULT: &str = "500 Internal Server Error";
 
+/// What a client that waits for it is told before its response.
 pub const CONTINUE: Told = Told::Raw("HTTP/1.1 100 Continue\r\n\r\n");
 
+/// A success without a value.
 pub const NULL: Told = Told::Hub(OK, "{\"value\":null}");
 
+/// No session has the id.
 pub const NO_SESSION: Told = Told::Hub(
     MISSING,
     "{\"value\":{\"error\":\"invalid session id\",\"message\":\"no such session\",\"stacktrace\":\"\"}}",
 );
 
+/// No command has the path.
 pub const NO_COMMAND: Told = Told::Hub(
     MISSING,
     "{\"value\":{\"error\":\"unknown command\",\"message\":\"no command has this path\",\"stacktrace\":\"\"}}",
