@@ -4,4 +4,6 @@
 #[cfg(test)]
 mod pieces;
 #[cfg(test)]
+mod replies;
+#[cfg(test)]
 mod whole_texts;

@@ -3,8 +3,7 @@ ghost use Rattle.std.specs.Prelude.{◌≡◌};
 ghost use Rattle.http_frames.specs.Feeding.{StandsForSome};
 
 use http_frames::*;
-use std::alloc::Global;
-use std::test::Fail;
+use std::alloc::{AllocError, Global};
 
 /// The first `limit` bytes, or all where there are fewer.
 fn front(text: &[u8], limit: usize) -> &[u8] {
@@ -12,7 +11,7 @@ fn front(text: &[u8], limit: usize) -> &[u8] {
 }
 
 /// What a reader and `next_request` are compared by.
-#[derive(Clone, Copy, Debug, PartialEq, Eq)]
+#[derive(Clone, Copy, PartialEq, Eq)]
 enum Told {
     Whole,
     More(bool),
@@ -138,60 +137,80 @@ fn is_read(alloc: Global, text: &[u8], size: usize, limits: FrameLimits) -> bool
     feed_in(&mut reader, text, size, limits).is_some()
 }
 
-#[test]
-fn refused_in_all_pieces(rt: HostRuntime) -> Result<(), Fail> {
-    let small = FrameLimits { head: 40, body: 4 };
-    let texts: [&[u8]; 16] = [
-        b"GET / HTTP/1.1\r\nA: b\r\n c\r\n\r\n",
-        b"GET /\x01\xff /",
-        b"G@T / HTTP/1.1\r\n\r\n",
-        b"GET / HTTP/1.2\r\n",
-        b"GET / HTTP/1.1\r\nA: 0123456789012345678901234567890123456789",
-        b"POST / HTTP/1.1\r\nContent-Length: 5\r\n\r\nhello",
-        b"POST / HTTP/1.1\r\nContent-Length: +5\r\n\r\n",
-        b"POST / HTTP/1.1\r\nContent-Length: 4\r\n\r\nhello",
-        b"\r\n\r\n\n\n\nGET / HTTP/1.1\r\n\r\n",
-        b"GET / HTTP/1.0\r\n\r\n",
-        b"",
-        b"\rX",
-        b"GET",
-        b"GET / HTTP/1.1\r\n: x\r\n\r\n",
-        b"GET / HTTP/1.1\r\nA : x\r\n\r\n",
-        b"GET /\xff HTTP/1.1\r\n\r\n",
-    ];
-    for text in texts {
-        for size in 1..50 {
-            assert!(rt; is_read(rt.alloc(), text, size, small));
+/// Whether a reader does so in pieces of each size below that.
+fn is_read_below(alloc: Global, text: &[u8], sizes: usize, limits: FrameLimits) -> bool {
+    for size in 1..sizes {
+        if !is_read(alloc, text, size, limits) {
+            return false;
         }
     }
-    let none = FrameLimits { head: 0, body: 4 };
-    assert!(rt; is_read(rt.alloc(), b"G", 1, none));
-    let bodies: [&[u8]; 14] = [
-        b"5\r\nhello\r\n0\r\n\r\n",
-        b"3\r\nabc\r\n1\r\nd\r\n0\r\n\r\n",
-        b"3\r\nabc\r\n2\r\nde\r\n0\r\n\r\n",
-        b"1\r\nab",
-        b"1\r\na\rb",
-        b"x",
-        b"0\n\n",
-        b"00000000000000001\r\n",
-        b"ffffffffffffffff\r\n",
-        b"0\r\nX y\r\n",
-        b"0\r\nX: y\r\n\r\n",
-        b"0\r\n\r\n",
-        b"0\r\n\n",
-        b"1 ;x\r\na\r\n0;\r\n\rx",
-    ];
-    let wide = FrameLimits { head: 100, body: 4 };
-    for body in bodies {
-        let mut text = Vec::from_slice(
-            rt.alloc(),
-            b"POST / HTTP/1.1\r\nTransfer-Encoding: chunked\r\n\r\n",
-        )?;
-        text.extend_from_slice(body)?;
-        for size in 1..70 {
-            assert!(rt; is_read(rt.alloc(), text.as_slice(), size, wide));
-        }
+    true
+}
+
+const SMALL: FrameLimits = FrameLimits { head: 40, body: 4 };
+
+const NONE: FrameLimits = FrameLimits { head: 0, body: 4 };
+
+const WIDE: FrameLimits = FrameLimits { head: 100, body: 4 };
+
+const TEXTS: &[&[u8]] = &[
+    b"GET / HTTP/1.1\r\nA: b\r\n c\r\n\r\n",
+    b"GET /\x01\xff /",
+    b"G@T / HTTP/1.1\r\n\r\n",
+    b"GET / HTTP/1.2\r\n",
+    b"GET / HTTP/1.1\r\nA: 0123456789012345678901234567890123456789",
+    b"POST / HTTP/1.1\r\nContent-Length: 5\r\n\r\nhello",
+    b"POST / HTTP/1.1\r\nContent-Length: +5\r\n\r\n",
+    b"POST / HTTP/1.1\r\nContent-Length: 4\r\n\r\nhello",
+    b"\r\n\r\n\n\n\nGET / HTTP/1.1\r\n\r\n",
+    b"GET / HTTP/1.0\r\n\r\n",
+    b"",
+    b"\rX",
+    b"GET",
+    b"GET / HTTP/1.1\r\n: x\r\n\r\n",
+    b"GET / HTTP/1.1\r\nA : x\r\n\r\n",
+    b"GET /\xff HTTP/1.1\r\n\r\n",
+];
+
+const BODIES: &[&[u8]] = &[
+    b"5\r\nhello\r\n0\r\n\r\n",
+    b"3\r\nabc\r\n1\r\nd\r\n0\r\n\r\n",
+    b"3\r\nabc\r\n2\r\nde\r\n0\r\n\r\n",
+    b"1\r\nab",
+    b"1\r\na\rb",
+    b"x",
+    b"0\n\n",
+    b"00000000000000001\r\n",
+    b"ffffffffffffffff\r\n",
+    b"0\r\nX y\r\n",
+    b"0\r\nX: y\r\n\r\n",
+    b"0\r\n\r\n",
+    b"0\r\n\n",
+    b"1 ;x\r\na\r\n0;\r\n\rx",
+];
+
+const CHUNKED_HEAD: &[u8] = b"POST / HTTP/1.1\r\nTransfer-Encoding: chunked\r\n\r\n";
+
+fn put_chunked(text: &mut Vec<u8>, body: &[u8]) -> Result<(), AllocError> {
+    text.extend_from_slice(CHUNKED_HEAD)?;
+    text.extend_from_slice(body)
+}
+
+fn is_body_read(alloc: Global, body: &[u8]) -> Result<bool, AllocError> {
+    let mut text = Vec::new(alloc);
+    put_chunked(&mut text, body)?;
+    Ok(is_read_below(alloc, text.as_slice(), 70, WIDE))
+}
+
+#[test]
+fn refused_in_all_pieces(rt: HostRuntime) -> Result<(), AllocError> {
+    for text in TEXTS {
+        assert!(rt; is_read_below(rt.alloc(), text, 50, SMALL), "{text:?}");
+    }
+    assert!(rt; is_read(rt.alloc(), b"G", 1, NONE));
+    for body in BODIES {
+        let so = is_body_read(rt.alloc(), body)?;
+        assert!(rt; so, "{body:?}");
     }
     Ok(())
 }
@@ -231,21 +250,27 @@ fn body_len(reader: &FrameReader) -> Option<usize> {
     }
 }
 
+/// One byte behind a chunk line of 4,000 bytes.
+fn put_chunk(chunk: &mut Vec<u8>) -> Result<(), AllocError> {
+    chunk.extend_from_slice(b"1;")?;
+    chunk.extend_from_slice(&[b'x'; 3996])?;
+    chunk.extend_from_slice(b"\r\na\r\n")
+}
+
+fn are_not_kept(alloc: Global, chunk: &[u8]) -> bool {
+    let mut reader = FrameReader::new(alloc, LIMITS);
+    feed_whole(&mut reader, CHUNKED_HEAD);
+    let most = feed_again(&mut reader, chunk, 10_000);
+    feed_whole(&mut reader, b"0\r\n\r\n");
+    4_000 < most && most <= 79_632 && body_len(&reader) == Some(10_000)
+}
+
 /// 10,000 chunks of one byte with chunk lines of 4,000 bytes: 65,536 + 10,000 + 4,096 bytes are the
 /// most that the head, the data and one line can take.
 #[test]
-fn chunk_lines_are_not_kept(rt: HostRuntime) -> Result<(), Fail> {
-    let mut chunk = Vec::from_slice(rt.alloc(), b"1;")?;
-    chunk.extend_from_slice(&[b'x'; 3996])?;
-    chunk.extend_from_slice(b"\r\na\r\n")?;
-    let mut reader = FrameReader::new(rt.alloc(), LIMITS);
-    feed_whole(
-        &mut reader,
-        b"POST / HTTP/1.1\r\nTransfer-Encoding: chunked\r\n\r\n",
-    );
-    let most = feed_again(&mut reader, chunk.as_slice(), 10_000);
-    assert!(rt; 4_000 < most && most <= 79_632);
-    feed_whole(&mut reader, b"0\r\n\r\n");
-    assert!(rt; body_len(&reader) == Some(10_000));
+fn chunk_lines_are_not_kept(rt: HostRuntime) -> Result<(), AllocError> {
+    let mut chunk = Vec::new(rt.alloc());
+    put_chunk(&mut chunk)?;
+    assert!(rt; are_not_kept(rt.alloc(), chunk.as_slice()));
     Ok(())
 }

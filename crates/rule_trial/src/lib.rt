@@ -6,6 +6,8 @@ mod definitions;
 #[cfg(test)]
 mod matching;
 #[cfg(test)]
+mod members;
+#[cfg(test)]
 mod moments;
 #[cfg(test)]
 mod remembering;

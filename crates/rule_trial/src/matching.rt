@@ -1,13 +1,14 @@
 //! Which capabilities match, by outside cases.
 ghost use Rattle.std.specs.Prelude.{◌≡◌, ◌<◌};
 
-use grid_types::{Cap, CapValue, Caps, Text};
+use crate::members::Kind::{Off, On, Raw, Text};
+use crate::members::{Member, put};
+use grid_types::{Caps, NoMemory};
 use slot_match::*;
 use std::alloc::Global;
 use std::marker::Brand;
 use std::process::Abort;
 use std::sync::ledger::{Blank, Ledger};
-use std::test::Fail;
 
 fn matched<L: Ledger>(wanted: &Caps, offered: &Caps, blank: Blank) -> bool
     requires name { blank.name ≡ L.name }
@@ -22,436 +23,213 @@ fn is_match(wanted: &Caps, offered: &Caps) -> bool {
     matched::<Brand>(wanted, offered, Blank::new(1))
 }
 
-#[derive(Clone, Copy)]
-enum Kind {
-    Text,
-    Raw,
-    On,
-    Off,
-}
+/// What is wanted, what is offered, whether that matches, and whether it meets what is wanted.
+type Case = (Member, Member, bool, bool);
 
-/// The capabilities of one member; of none where there is no name.
-fn one(alloc: Global, name: &str, kind: Kind, text: &str) -> Result<Caps, Fail> {
-    let mut caps = Caps::new(alloc);
-    if name.is_empty() {
-        return Ok(caps);
-    }
-    let value = match kind {
-        Kind::Text => CapValue::Text(Text::of(alloc, text)?),
-        Kind::Raw => CapValue::Raw(Text::of(alloc, text)?),
-        Kind::On => CapValue::Flag(true),
-        Kind::Off => CapValue::Flag(false),
-    };
-    let name = Text::of(alloc, name)?;
-    match caps.push(Cap { name, value }) {
-        Ok(()) => Ok(caps),
-        Err(_) => Err("no memory".into()),
-    }
-}
-
-/// Whether one text that is wanted is matched and met by another of the same name.
-fn texts(
-    rt: &impl Abort,
+fn puts(
     alloc: Global,
-    name: &str,
-    wanted: &str,
-    offered: &str,
-    matching: bool,
-    meeting: bool,
-) -> Result<(), Fail> {
-    let a = one(alloc, name, Kind::Text, wanted)?;
-    let b = one(alloc, name, Kind::Text, offered)?;
-    assert_eq!(rt; is_match(&a, &b), matching, "{name} {wanted} {offered}");
-    assert_eq!(rt; meets(&a, &b), meeting, "{name} {wanted} {offered}");
-    Ok(())
+    wanted: &mut Caps,
+    offered: &mut Caps,
+    case: &Case,
+) -> Result<bool, NoMemory> {
+    let (member, other, matching, meeting) = case;
+    put(alloc, wanted, member)?;
+    put(alloc, offered, other)?;
+    Ok(is_match(wanted, offered) == *matching && meets(wanted, offered) == *meeting)
 }
 
-#[test]
-fn browsers(rt: HostRuntime) -> Result<(), Fail> {
-    for (wanted, offered, answer) in [
-        ("chrome", "chrome", true),
-        ("Chrome", "chrome", true),
-        ("chrome", "CHROME", true),
-        ("chrome", "chromium", false),
-        ("chrome", "chrom", false),
-        ("chrome", "chrome ", false),
-        ("chrome", "", false),
-        ("", "", true),
-        ("", "chrome", false),
-        ("firefox", "chrome", false),
-        ("msedge", "MicrosoftEdge", true),
-        ("MicrosoftEdge", "msedge", true),
-        ("MSEdge", "microsoftedge", true),
-        ("msedge", "edge", false),
-        ("msedge", "chrome", false),
-        ("chrome", "chrome-headless-shell", true),
-        ("chrome-headless-shell", "Chrome", true),
-        ("Chrome-Headless-Shell", "chrome-headless-shell", true),
-        ("chrome-headless-shell", "msedge", false),
-        ("microsoftedge", "chrome-headless-shell", false),
-        ("chrome-headless", "chrome", false),
-        ("safari", "Safari", true),
-        ("É", "é", false),
-    ] {
-        texts(
-            &rt,
-            rt.alloc(),
-            "browserName",
-            wanted,
-            offered,
-            answer,
-            answer,
-        )?;
+fn holds(alloc: Global, case: &Case) -> Result<bool, NoMemory> {
+    let mut wanted = Caps::new(alloc);
+    let mut offered = Caps::new(alloc);
+    puts(alloc, &mut wanted, &mut offered, case)
+}
+
+fn hold(rt: &impl Abort, alloc: Global, cases: &[Case]) -> Result<(), NoMemory> {
+    for case in cases {
+        let so = holds(alloc, case)?;
+        assert!(rt; so, "{} {} {}", case.0.0, case.0.2, case.1.2);
     }
     Ok(())
 }
 
-#[test]
-fn versions(rt: HostRuntime) -> Result<(), Fail> {
-    for (wanted, offered, matching, meeting) in [
-        ("12", "126.0", false, false),
-        ("126", "126.0", true, true),
-        ("126.0", "126.0", true, true),
-        ("126.", "126.0", false, false),
-        ("stable", "126.0", true, true),
-        ("", "126.0", true, true),
-        ("126", "1260", false, false),
-        ("126", "1260.0", false, false),
-        ("126", "126", true, true),
-        ("126.0", "126", false, false),
-        ("126", "126.", true, true),
-        ("126.0.6478", "126.0.6478.126", true, true),
-        ("126.0.647", "126.0.6478.126", false, false),
-        ("beta", "126.0", false, true),
-        ("beta", "beta", true, true),
-        ("beta", "beta.1", true, true),
-        ("Stable", "126.0", false, true),
-        ("latest", "126.0", false, true),
-        ("-1", "126.0", false, true),
-        ("9z", "126.0", false, false),
-        ("126", "", false, false),
-    ] {
-        texts(
-            &rt,
-            rt.alloc(),
-            "browserVersion",
-            wanted,
-            offered,
-            matching,
-            meeting,
-        )?;
-    }
-    Ok(())
+const NONE: Member = ("", Text, "");
+
+/// Two values of one name.
+macro_rules! kinds {
+    ($name:expr, $kind:expr, $wanted:expr, $other:expr, $offered:expr, $matching:expr, $meeting:expr) => {
+        (
+            ($name, $kind, $wanted),
+            ($name, $other, $offered),
+            $matching,
+            $meeting,
+        )
+    };
 }
 
-#[test]
-fn platforms(rt: HostRuntime) -> Result<(), Fail> {
-    for (wanted, offered, matching, meeting) in [
-        ("linux", "linux", true, true),
-        ("Linux", "LINUX", true, true),
-        ("any", "linux", true, true),
-        ("ANY", "windows 11", true, true),
-        ("anything", "linux", false, false),
-        ("linux", "any", false, false),
-        ("windows", "Windows 11", true, true),
-        ("win", "windows", true, true),
-        ("WIN", "win10", true, true),
-        ("windows 11", "windows 10", false, true),
-        ("windows 11", "windows", false, true),
-        ("win10", "windows", false, true),
-        ("mac", "macOS 14", true, true),
-        ("macos", "darwin", true, true),
-        ("mac", "Darwin", true, true),
-        ("darwin", "mac", false, true),
-        ("macos 14", "mac", false, true),
-        ("mac", "linux", false, false),
-        ("windows", "darwin", false, false),
-        ("linux", "ubuntu", true, true),
-        ("linux", "Debian", true, true),
-        ("linux", "linux 6.1", true, true),
-        ("ubuntu", "debian", false, true),
-        ("ubuntu", "linux", false, true),
-        ("linux", "fedora", false, false),
-        ("linux", "ubuntu 24", false, false),
-        ("fedora", "Fedora", true, true),
-        ("", "", true, true),
-        ("", "linux", false, false),
-        ("linux", "", false, false),
-    ] {
-        texts(
-            &rt,
-            rt.alloc(),
-            "platformName",
-            wanted,
-            offered,
-            matching,
-            meeting,
-        )?;
-    }
-    Ok(())
+/// A value that is wanted where nothing is offered.
+macro_rules! alone {
+    ($name:expr, $kind:expr, $wanted:expr, $matching:expr, $meeting:expr) => {
+        (($name, $kind, $wanted), NONE, $matching, $meeting)
+    };
 }
 
+/// Two browsers, with the one answer to both.
+macro_rules! browser {
+    ($wanted:expr, $offered:expr, $answer:expr) => {
+        kinds!("browserName", Text, $wanted, Text, $offered, $answer, $answer)
+    };
+}
+
+macro_rules! version {
+    ($wanted:expr, $offered:expr, $matching:expr, $meeting:expr) => {
+        kinds!("browserVersion", Text, $wanted, Text, $offered, $matching, $meeting)
+    };
+}
+
+macro_rules! platform {
+    ($wanted:expr, $offered:expr, $matching:expr, $meeting:expr) => {
+        kinds!("platformName", Text, $wanted, Text, $offered, $matching, $meeting)
+    };
+}
+
+const BROWSERS: &[Case] = &[
+    browser!("chrome", "chrome", true),
+    browser!("Chrome", "chrome", true),
+    browser!("chrome", "CHROME", true),
+    browser!("chrome", "chromium", false),
+    browser!("chrome", "chrom", false),
+    browser!("chrome", "chrome ", false),
+    browser!("chrome", "", false),
+    browser!("", "", true),
+    browser!("", "chrome", false),
+    browser!("firefox", "chrome", false),
+    browser!("msedge", "MicrosoftEdge", true),
+    browser!("MicrosoftEdge", "msedge", true),
+    browser!("MSEdge", "microsoftedge", true),
+    browser!("msedge", "edge", false),
+    browser!("msedge", "chrome", false),
+    browser!("chrome", "chrome-headless-shell", true),
+    browser!("chrome-headless-shell", "Chrome", true),
+    browser!("Chrome-Headless-Shell", "chrome-headless-shell", true),
+    browser!("chrome-headless-shell", "msedge", false),
+    browser!("microsoftedge", "chrome-headless-shell", false),
+    browser!("chrome-headless", "chrome", false),
+    browser!("safari", "Safari", true),
+    browser!("É", "é", false),
+];
+
 #[test]
-fn extensions_and_kinds(rt: HostRuntime) -> Result<(), Fail> {
-    let alloc = rt.alloc();
-    for (name, wanted_kind, wanted, other, offered_kind, offered, matching, meeting) in [
-        (
-            "x:team",
-            Kind::Text,
-            "a",
-            "x:team",
-            Kind::Text,
-            "a",
-            true,
-            true,
-        ),
-        (
-            "x:team",
-            Kind::Text,
-            "a",
-            "x:team",
-            Kind::Text,
-            "A",
-            false,
-            true,
-        ),
-        (
-            "x:team",
-            Kind::Text,
-            "a",
-            "X:team",
-            Kind::Text,
-            "a",
-            false,
-            true,
-        ),
-        ("x:team", Kind::Text, "a", "", Kind::Text, "", false, true),
-        ("", Kind::Text, "", "x:team", Kind::Text, "a", true, true),
-        ("x:on", Kind::On, "", "x:on", Kind::On, "", true, true),
-        ("x:on", Kind::On, "", "x:on", Kind::Off, "", false, true),
-        ("x:on", Kind::Off, "", "x:on", Kind::Off, "", true, true),
-        ("x:on", Kind::Off, "", "x:on", Kind::On, "", false, true),
-        (
-            "x:on",
-            Kind::On,
-            "",
-            "x:on",
-            Kind::Text,
-            "true",
-            false,
-            true,
-        ),
-        ("x:on", Kind::On, "", "x:on", Kind::Raw, "true", false, true),
-        (
-            "x:raw",
-            Kind::Raw,
-            "[1]",
-            "x:raw",
-            Kind::Raw,
-            "[1]",
-            true,
-            true,
-        ),
-        (
-            "x:raw",
-            Kind::Raw,
-            "[1]",
-            "x:raw",
-            Kind::Raw,
-            "[2]",
-            false,
-            true,
-        ),
-        (
-            "x:raw",
-            Kind::Raw,
-            "1",
-            "x:raw",
-            Kind::Text,
-            "1",
-            false,
-            true,
-        ),
-        (
-            "goog:chromeOptions",
-            Kind::Raw,
-            "{}",
-            "",
-            Kind::Text,
-            "",
-            true,
-            true,
-        ),
-        (
-            "moz:firefoxOptions",
-            Kind::Raw,
-            "{}",
-            "",
-            Kind::Text,
-            "",
-            true,
-            true,
-        ),
-        (
-            "ms:edgeOptions",
-            Kind::Raw,
-            "{}",
-            "",
-            Kind::Text,
-            "",
-            true,
-            true,
-        ),
-        (
-            "safari:diagnose",
-            Kind::On,
-            "",
-            "",
-            Kind::Text,
-            "",
-            true,
-            true,
-        ),
-        (
-            "webkitgtk:browserOptions",
-            Kind::Raw,
-            "{}",
-            "",
-            Kind::Text,
-            "",
-            true,
-            true,
-        ),
-        (
-            "se:name",
-            Kind::Text,
-            "a",
-            "se:name",
-            Kind::Text,
-            "b",
-            true,
-            true,
-        ),
-        ("wdio:x", Kind::Text, "a", "", Kind::Text, "", true, true),
-        ("grid:x", Kind::Text, "a", "", Kind::Text, "", true, true),
-        ("Goog:x", Kind::Text, "a", "", Kind::Text, "", false, true),
-        ("google:x", Kind::Text, "a", "", Kind::Text, "", false, true),
-        (
-            "acceptInsecureCerts",
-            Kind::On,
-            "",
-            "acceptInsecureCerts",
-            Kind::Off,
-            "",
-            true,
-            true,
-        ),
-        ("timeouts", Kind::Raw, "{}", "", Kind::Text, "", true, true),
-        (
-            "browserName",
-            Kind::Text,
-            "chrome",
-            "browserName",
-            Kind::Raw,
-            "chrome",
-            false,
-            false,
-        ),
-        (
-            "browserName",
-            Kind::Raw,
-            "1",
-            "browserName",
-            Kind::Text,
-            "chrome",
-            true,
-            true,
-        ),
-        (
-            "browserVersion",
-            Kind::Text,
-            "126",
-            "browserVersion",
-            Kind::Raw,
-            "126",
-            false,
-            false,
-        ),
-        (
-            "browserVersion",
-            Kind::Text,
-            "stable",
-            "browserVersion",
-            Kind::Raw,
-            "126",
-            true,
-            true,
-        ),
-        (
-            "platformName",
-            Kind::Text,
-            "linux",
-            "platformName",
-            Kind::On,
-            "",
-            false,
-            false,
-        ),
-        (
-            "platformName",
-            Kind::On,
-            "",
-            "platformName",
-            Kind::Text,
-            "linux",
-            true,
-            true,
-        ),
-        (
-            "platformName",
-            Kind::Text,
-            "any",
-            "",
-            Kind::Text,
-            "",
-            true,
-            true,
-        ),
-        (
-            "browserVersion",
-            Kind::Text,
-            "",
-            "",
-            Kind::Text,
-            "",
-            true,
-            true,
-        ),
-        (
-            "browserVersion",
-            Kind::Text,
-            "dev",
-            "",
-            Kind::Text,
-            "",
-            false,
-            true,
-        ),
-        (
-            "browserName",
-            Kind::Text,
-            "chrome",
-            "",
-            Kind::Text,
-            "",
-            false,
-            false,
-        ),
-    ] {
-        let a = one(alloc, name, wanted_kind, wanted)?;
-        let b = one(alloc, other, offered_kind, offered)?;
-        assert_eq!(rt; is_match(&a, &b), matching, "{name} {wanted} {offered}");
-        assert_eq!(rt; meets(&a, &b), meeting, "{name} {wanted} {offered}");
-    }
-    Ok(())
+fn browsers(rt: HostRuntime) -> Result<(), NoMemory> {
+    hold(&rt, rt.alloc(), BROWSERS)
+}
+
+const VERSIONS: &[Case] = &[
+    version!("12", "126.0", false, false),
+    version!("126", "126.0", true, true),
+    version!("126.0", "126.0", true, true),
+    version!("126.", "126.0", false, false),
+    version!("stable", "126.0", true, true),
+    version!("", "126.0", true, true),
+    version!("126", "1260", false, false),
+    version!("126", "1260.0", false, false),
+    version!("126", "126", true, true),
+    version!("126.0", "126", false, false),
+    version!("126", "126.", true, true),
+    version!("126.0.6478", "126.0.6478.126", true, true),
+    version!("126.0.647", "126.0.6478.126", false, false),
+    version!("beta", "126.0", false, true),
+    version!("beta", "beta", true, true),
+    version!("beta", "beta.1", true, true),
+    version!("Stable", "126.0", false, true),
+    version!("latest", "126.0", false, true),
+    version!("-1", "126.0", false, true),
+    version!("9z", "126.0", false, false),
+    version!("126", "", false, false),
+];
+
+#[test]
+fn versions(rt: HostRuntime) -> Result<(), NoMemory> {
+    hold(&rt, rt.alloc(), VERSIONS)
+}
+
+const PLATFORMS: &[Case] = &[
+    platform!("linux", "linux", true, true),
+    platform!("Linux", "LINUX", true, true),
+    platform!("any", "linux", true, true),
+    platform!("ANY", "windows 11", true, true),
+    platform!("anything", "linux", false, false),
+    platform!("linux", "any", false, false),
+    platform!("windows", "Windows 11", true, true),
+    platform!("win", "windows", true, true),
+    platform!("WIN", "win10", true, true),
+    platform!("windows 11", "windows 10", false, true),
+    platform!("windows 11", "windows", false, true),
+    platform!("win10", "windows", false, true),
+    platform!("mac", "macOS 14", true, true),
+    platform!("macos", "darwin", true, true),
+    platform!("mac", "Darwin", true, true),
+    platform!("darwin", "mac", false, true),
+    platform!("macos 14", "mac", false, true),
+    platform!("mac", "linux", false, false),
+    platform!("windows", "darwin", false, false),
+    platform!("linux", "ubuntu", true, true),
+    platform!("linux", "Debian", true, true),
+    platform!("linux", "linux 6.1", true, true),
+    platform!("ubuntu", "debian", false, true),
+    platform!("ubuntu", "linux", false, true),
+    platform!("linux", "fedora", false, false),
+    platform!("linux", "ubuntu 24", false, false),
+    platform!("fedora", "Fedora", true, true),
+    platform!("", "", true, true),
+    platform!("", "linux", false, false),
+    platform!("linux", "", false, false),
+];
+
+#[test]
+fn platforms(rt: HostRuntime) -> Result<(), NoMemory> {
+    hold(&rt, rt.alloc(), PLATFORMS)
+}
+
+const EXTENSIONS_AND_KINDS: &[Case] = &[
+    kinds!("x:team", Text, "a", Text, "a", true, true),
+    kinds!("x:team", Text, "a", Text, "A", false, true),
+    (("x:team", Text, "a"), ("X:team", Text, "a"), false, true),
+    alone!("x:team", Text, "a", false, true),
+    (NONE, ("x:team", Text, "a"), true, true),
+    kinds!("x:on", On, "", On, "", true, true),
+    kinds!("x:on", On, "", Off, "", false, true),
+    kinds!("x:on", Off, "", Off, "", true, true),
+    kinds!("x:on", Off, "", On, "", false, true),
+    kinds!("x:on", On, "", Text, "true", false, true),
+    kinds!("x:on", On, "", Raw, "true", false, true),
+    kinds!("x:raw", Raw, "[1]", Raw, "[1]", true, true),
+    kinds!("x:raw", Raw, "[1]", Raw, "[2]", false, true),
+    kinds!("x:raw", Raw, "1", Text, "1", false, true),
+    alone!("goog:chromeOptions", Raw, "{}", true, true),
+    alone!("moz:firefoxOptions", Raw, "{}", true, true),
+    alone!("ms:edgeOptions", Raw, "{}", true, true),
+    alone!("safari:diagnose", On, "", true, true),
+    alone!("webkitgtk:browserOptions", Raw, "{}", true, true),
+    kinds!("se:name", Text, "a", Text, "b", true, true),
+    alone!("wdio:x", Text, "a", true, true),
+    alone!("grid:x", Text, "a", true, true),
+    alone!("Goog:x", Text, "a", false, true),
+    alone!("google:x", Text, "a", false, true),
+    kinds!("acceptInsecureCerts", On, "", Off, "", true, true),
+    alone!("timeouts", Raw, "{}", true, true),
+    kinds!("browserName", Text, "chrome", Raw, "chrome", false, false),
+    kinds!("browserName", Raw, "1", Text, "chrome", true, true),
+    kinds!("browserVersion", Text, "126", Raw, "126", false, false),
+    kinds!("browserVersion", Text, "stable", Raw, "126", true, true),
+    kinds!("platformName", Text, "linux", On, "", false, false),
+    kinds!("platformName", On, "", Text, "linux", true, true),
+    alone!("platformName", Text, "any", true, true),
+    alone!("browserVersion", Text, "", true, true),
+    alone!("browserVersion", Text, "dev", false, true),
+    alone!("browserName", Text, "chrome", false, false),
+];
+
+#[test]
+fn extensions_and_kinds(rt: HostRuntime) -> Result<(), NoMemory> {
+    hold(&rt, rt.alloc(), EXTENSIONS_AND_KINDS)
 }

@@ -2,7 +2,11 @@
 #![tactic(auto)]
 
 #[cfg(test)]
+mod laws;
+#[cfg(test)]
 mod map;
+#[cfg(test)]
+mod names;
 #[cfg(test)]
 mod nodes;
 #[cfg(test)]

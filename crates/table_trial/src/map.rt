@@ -2,11 +2,14 @@
 ghost use Rattle.std.specs.Prelude.{◌≡◌, []};
 ghost use Rattle.map_view.specs.Maps.{pending};
 
-use grid_types::{Found, NodeAddress, SessionId, SlotId};
-use map_view::{Item, Items, MapWriter, Readers, new};
+use crate::names::{address, session};
+use grid_types::{Found, NoMemory, SessionId, SlotId};
+use map_view::{Item, Items, MapReader, MapWriter, Readers, new};
 use std::alloc::Global;
+use std::process::Abort;
 use std::sync::Wait;
-use std::test::Fail;
+
+const PLACE: SlotId = SlotId { node: 1, index: 0 };
 
 /// A writer between two changes.
 struct Publisher {
@@ -26,51 +29,77 @@ impl Publisher {
     }
 }
 
-/// Two readers, of which one is told.
+/// The reader is told of the item, and then finds this.
 fn finds<R: Wait>(
     rt: &R,
     alloc: Global,
     publisher: &mut Publisher,
-    readers: &mut Readers,
-) -> Option<Vec<Option<Found>>> {
-    let session = SessionId::from_bytes(b"a")?;
-    let mut told = readers.take()?;
-    let mut found = Vec::new(alloc);
-    found.push(told.find(&session)).ok()?;
-    let put = Item::Put {
-        session,
-        slot: SlotId { node: 1, index: 0 },
-        address: NodeAddress::from_bytes(b"127.0.0.1:5555")?,
-        binding: 1,
-    };
-    if !publisher.add(rt, alloc, put) {
-        return None;
+    told: &mut MapReader,
+    item: Item,
+    session: &SessionId,
+    found: Found,
+) -> Result<bool, NoMemory> {
+    if !publisher.add(rt, alloc, item) {
+        return Err(NoMemory);
     }
-    publisher.writer.tell(&mut told);
-    found.push(told.find(&session)).ok()?;
-    if !publisher.add(rt, alloc, Item::Removal(session)) {
-        return None;
-    }
-    publisher.writer.tell(&mut told);
-    found.push(told.find(&session)).ok()?;
-    Some(found)
+    publisher.writer.tell(told);
+    Ok(told.find(session) == Some(found))
 }
 
-#[test]
-fn a_session_is_found_between_its_put_and_its_removal(rt: HostRuntime) -> Result<(), Fail> {
-    let (writer, mut readers) = new(&rt, rt.alloc(), 2).map_err(|_| "no memory")?;
-    let mut publisher = Publisher { writer };
-    let found = finds(&rt, rt.alloc(), &mut publisher, &mut readers);
-    let Publisher { writer } = publisher;
-    writer.close(&rt);
-    let address = NodeAddress::from_bytes(b"127.0.0.1:5555").ok_or("no address")?;
-    let at = Found::At {
-        slot: SlotId { node: 1, index: 0 },
+fn finds_between<R: Wait + Abort>(
+    rt: &R,
+    alloc: Global,
+    publisher: &mut Publisher,
+    told: &mut MapReader,
+) -> Result<bool, NoMemory> {
+    let (session, address) = (session(rt, b"a"), address(rt));
+    let before = told.find(&session) == Some(Found::NoSession);
+    let put = Item::Put {
+        session,
+        slot: PLACE,
         address,
         binding: 1,
     };
-    let found = found.ok_or("no memory")?;
-    let wanted = [Some(Found::NoSession), Some(at), Some(Found::NoSession)];
-    assert!(rt; found.as_slice() == wanted.as_slice());
+    let found = Found::At {
+        slot: PLACE,
+        address,
+        binding: 1,
+    };
+    let between = finds(rt, alloc, publisher, told, put, &session, found)?;
+    let removal = Item::Removal(session);
+    let behind = finds(
+        rt,
+        alloc,
+        publisher,
+        told,
+        removal,
+        &session,
+        Found::NoSession,
+    )?;
+    Ok(before && between && behind)
+}
+
+/// Two readers, of which one is told.
+fn one_finds<R: Wait + Abort>(
+    rt: &R,
+    alloc: Global,
+    publisher: &mut Publisher,
+    readers: &mut Readers,
+) -> Result<bool, NoMemory> {
+    match readers.take() {
+        Some(mut told) => finds_between(rt, alloc, publisher, &mut told),
+        None => Ok(false),
+    }
+}
+
+#[test]
+fn a_session_is_found_between_its_put_and_its_removal(rt: HostRuntime) -> Result<(), NoMemory> {
+    let (writer, mut readers) = new(&rt, rt.alloc(), 2)?;
+    let mut publisher = Publisher { writer };
+    let found = one_finds(&rt, rt.alloc(), &mut publisher, &mut readers);
+    let Publisher { writer } = publisher;
+    writer.close(&rt);
+    let so = found?;
+    assert!(rt; so);
     Ok(())
 }

@@ -1,80 +1,118 @@
 //! The table of live sessions.
-use grid_types::{Caps, EndCause, Found, Moment, NodeAddress, SessionId, SlotId};
-use session_map::{LiveMap, other_changes_keep};
-use std::test::Fail;
+use crate::names::{address, session};
+use grid_types::{Caps, EndCause, Found, Moment, NoMemory, SlotId};
+use session_map::LiveMap;
+use std::alloc::Global;
+use std::process::Abort;
 
-/// Sessions a and b on node 1, c on node 2: b ends, node 1 lapses, and c is idle from 40 on.
-#[test]
-fn sessions_come_and_go(rt: HostRuntime) -> Result<(), Fail> {
-    let address = NodeAddress::from_bytes(b"127.0.0.1:5555").ok_or("no address")?;
-    let caps = Caps::new(rt.alloc());
-    let mut map = LiveMap::new(rt.alloc());
-    for (request, node, index, name) in [
-        (3u64, 1u32, 0u16, b"a"),
-        (1, 1, 1, b"b"),
-        (2, 2, 0, b"c"),
-    ] {
-        let session = SessionId::from_bytes(name).ok_or("no session id")?;
-        map.bound(
-            request,
-            SlotId { node, index },
-            session,
-            &caps,
-            Moment(10),
-            address,
-        )
-        .map_err(|_| "no memory")?;
-    }
-    let a = SessionId::from_bytes(b"a").ok_or("no session id")?;
-    let b = SessionId::from_bytes(b"b").ok_or("no session id")?;
-    let c = SessionId::from_bytes(b"c").ok_or("no session id")?;
-    let at_a = Found::At {
-        slot: SlotId { node: 1, index: 0 },
-        address,
-        binding: 3,
+/// A request, the slot and the id of its session.
+type Row = (u64, SlotId, &'static [u8]);
+
+const ROWS: [Row; 3] = [
+    (3, SlotId { node: 1, index: 0 }, b"a"),
+    (1, SlotId { node: 1, index: 1 }, b"b"),
+    (2, SlotId { node: 2, index: 0 }, b"c"),
+];
+
+fn bind(rt: &impl Abort, alloc: Global, map: &mut LiveMap, row: Row) -> Result<(), NoMemory> {
+    let (request, slot, id) = row;
+    let caps = Caps::new(alloc);
+    map.bound(
+        request,
+        slot,
+        session(rt, id),
+        &caps,
+        Moment(10),
+        address(rt),
+    )
+}
+
+/// Whether the session of this id is found where the row says, or not at all.
+fn finds(rt: &impl Abort, map: &LiveMap, id: &[u8], row: Option<Row>) -> bool {
+    let found = match row {
+        Some((binding, slot, _)) => Found::At {
+            slot,
+            address: address(rt),
+            binding,
+        },
+        None => Found::NoSession,
     };
-    assert!(rt; map.find(&a) == at_a);
-    assert!(rt; map.session_of(1) == Some(b));
+    map.find(&session(rt, id)) == found
+}
+
+fn binds(rt: &impl Abort, alloc: Global, map: &mut LiveMap) -> Result<(), NoMemory> {
+    for row in &ROWS {
+        bind(rt, alloc, map, *row)?;
+    }
+    assert!(rt; finds(rt, map, b"a", Some(ROWS[0])));
+    assert!(rt; map.session_of(1) == Some(session(rt, b"b")));
+    Ok(())
+}
+
+fn touches(rt: &impl Abort, map: &mut LiveMap) {
     assert!(rt; map.least_idle(Moment(40), 30) == Some(1));
     map.touched(1, Moment(20));
     assert!(rt; map.least_idle(Moment(40), 30) == Some(2));
+}
+
+fn ends(rt: &impl Abort, map: &mut LiveMap) {
     map.ended(1, EndCause::Quit, Moment(21));
-    assert!(rt; map.find(&b) == Found::NoSession);
-    assert!(rt; map.find(&a) == at_a);
+    assert!(rt; finds(rt, map, b"b", None) && finds(rt, map, b"a", Some(ROWS[0])));
+}
+
+fn has_only_c(rt: &impl Abort, map: &LiveMap) -> bool {
+    finds(rt, map, b"a", None)
+        && map.session_of(3).is_none()
+        && map.session_of(2) == Some(session(rt, b"c"))
+}
+
+fn lapses(rt: &impl Abort, map: &mut LiveMap) {
     map.lapsed(1, Moment(22));
-    assert!(rt; map.find(&a) == Found::NoSession);
-    assert!(rt; map.session_of(3).is_none());
-    assert!(rt; map.session_of(2) == Some(c));
+    assert!(rt; has_only_c(rt, map));
+}
+
+fn is_quiet(rt: &impl Abort, map: &mut LiveMap) {
     assert!(rt; map.least_idle(Moment(39), 30).is_none());
     map.note_quiet();
     assert!(rt; map.least_idle(Moment(39), 30).is_none());
     assert!(rt; map.least_idle(Moment(40), 30) == Some(2));
-    // A law, which does nothing when it runs.
-    other_changes_keep();
+}
+
+fn come_and_go(rt: &impl Abort, alloc: Global, map: &mut LiveMap) -> Result<(), NoMemory> {
+    binds(rt, alloc, map)?;
+    touches(rt, map);
+    ends(rt, map);
+    lapses(rt, map);
+    is_quiet(rt, map);
+    Ok(())
+}
+
+/// Sessions a and b on node 1, c on node 2: b ends, node 1 lapses, and c is idle from 40 on.
+#[test]
+fn sessions_come_and_go(rt: HostRuntime) -> Result<(), NoMemory> {
+    let mut map = LiveMap::new(rt.alloc());
+    come_and_go(&rt, rt.alloc(), &mut map)
+}
+
+const PLACE: SlotId = SlotId { node: 1, index: 0 };
+
+fn takes_room(rt: &impl Abort, map: &mut LiveMap) -> Result<(), NoMemory> {
+    map.ready(1, PLACE, session(rt, b"a"), address(rt))?;
+    map.ready(1, PLACE, session(rt, b"b"), address(rt))?;
+    assert!(rt; finds(rt, map, b"a", None) && finds(rt, map, b"b", None));
+    Ok(())
+}
+
+fn is_found_then(rt: &impl Abort, alloc: Global, map: &mut LiveMap) -> Result<(), NoMemory> {
+    takes_room(rt, map)?;
+    bind(rt, alloc, map, (1, PLACE, b"b"))?;
+    assert!(rt; finds(rt, map, b"b", Some((1, PLACE, b"b"))) && finds(rt, map, b"a", None));
     Ok(())
 }
 
 /// Room for a session is taken, and another session's place stays as it is; the session is found once it is bound.
 #[test]
-fn room_is_no_session(rt: HostRuntime) -> Result<(), Fail> {
-    let address = NodeAddress::from_bytes(b"127.0.0.1:5555").ok_or("no address")?;
-    let slot = SlotId { node: 1, index: 0 };
-    let caps = Caps::new(rt.alloc());
+fn room_is_no_session(rt: HostRuntime) -> Result<(), NoMemory> {
     let mut map = LiveMap::new(rt.alloc());
-    let a = SessionId::from_bytes(b"a").ok_or("no session id")?;
-    let b = SessionId::from_bytes(b"b").ok_or("no session id")?;
-    map.ready(1, slot, a, address).map_err(|_| "no memory")?;
-    map.ready(1, slot, b, address).map_err(|_| "no memory")?;
-    assert!(rt; map.find(&a) == Found::NoSession);
-    assert!(rt; map.find(&b) == Found::NoSession);
-    map.bound(1, slot, b, &caps, Moment(10), address)
-        .map_err(|_| "no memory")?;
-    let found = Found::At {
-        slot,
-        address,
-        binding: 1,
-    };
-    assert!(rt; map.find(&b) == found);
-    assert!(rt; map.find(&a) == Found::NoSession);
-    Ok(())
+    is_found_then(&rt, rt.alloc(), &mut map)
 }

@@ -2,16 +2,24 @@
 ghost use Rattle.std.specs.Prelude.{◌≤◌, IfOk, length};
 ghost use Rattle.grid_types.specs.Nodes.{stereotypes};
 
+use crate::names::{address, session};
 use grid_types::{
-    Caps, EndCause, FailWhy, Groups, Moment, NodeAddress, Registration, SessionId, SlotGroup,
-    SlotId, Text,
+    Caps, EndCause, FailWhy, Groups, Moment, NoMemory, Registration, SlotGroup, SlotId, Text,
 };
-use reservation::{SlotTable, SlotUse, other_changes_keep};
+use reservation::{SlotTable, SlotUse};
 use std::alloc::Global;
-use std::test::Fail;
+use std::process::Abort;
 
-fn registration(alloc: Global) -> Result<Registration, Fail>
-    ensures { IfOk result (λ r. length (stereotypes r.groups) ≤ 64) }
+const FIRST: SlotId = SlotId { node: 1, index: 0 };
+
+const SECOND: SlotId = SlotId { node: 1, index: 1 };
+
+const BOTH: &[bool] = &[true, true];
+
+const ONLY_SECOND: &[bool] = &[false, true];
+
+fn two_slots(alloc: Global) -> Result<Groups, NoMemory>
+    ensures { IfOk result (λ g. length (stereotypes g) ≤ 64) }
 {
     let mut groups = Groups::new(alloc);
     let group = SlotGroup {
@@ -19,103 +27,139 @@ fn registration(alloc: Global) -> Result<Registration, Fail>
         count: 2,
     };
     match groups.push(group) {
-        Ok(()) => {}
-        Err(_) => return Err("no memory".into()),
+        Ok(()) => Ok(groups),
+        Err(_) => Err(NoMemory),
     }
+}
+
+fn registration(rt: &impl Abort, alloc: Global) -> Result<Registration, NoMemory>
+    ensures { IfOk result (λ r. length (stereotypes r.groups) ≤ 64) }
+{
+    let groups = two_slots(alloc)?;
+    let name = Text::of(alloc, "n")?;
     Ok(Registration {
-        name: Text::of(alloc, "n").map_err(|_| "no memory")?,
-        address: NodeAddress::from_bytes(b"127.0.0.1:1").ok_or("no address")?,
+        name,
+        address: address(rt),
         max_sessions: 2,
         groups,
         drain_after: None,
     })
 }
 
-/// One node of two slots: the first runs a session that ends, the second is held until its start fails with an orphan.
-#[test]
-fn slots_go_round(rt: HostRuntime) -> Result<(), Fail> {
-    let first = SlotId { node: 1, index: 0 };
-    let second = SlotId { node: 1, index: 1 };
-    let session = SessionId::from_bytes(b"a").ok_or("no session id")?;
-    let mut table = SlotTable::new(rt.alloc());
-    let node = registration(rt.alloc())?;
-    table
-        .registered(1, &node, Moment(1))
-        .map_err(|_| "no memory")?;
-    assert_eq!(rt; table.free(1), [true, true].as_slice());
-    table
-        .reserved(7, 1, first, 0, Moment(2))
-        .map_err(|_| "no memory")?;
-    table
-        .reserved(8, 2, second, 0, Moment(2))
-        .map_err(|_| "no memory")?;
-    assert_eq!(rt; table.load(1), 2);
-    assert_eq!(rt; table.held(1), 2);
-    assert_eq!(rt; table.uses(1).len(), 2);
-    let caps = Caps::new(rt.alloc());
-    table
-        .bound(7, 1, first, session, &caps, Moment(3))
-        .map_err(|_| "no memory")?;
-    table.failed(8, 2, second, FailWhy::Late, Some(session), false, Moment(3));
-    assert!(rt;
-        matches!(
-            table.slot_use(first),
-            SlotUse::Busy {
-                binding: 1,
-                owner: 7,
-                ..
-            }
-        )
-    );
-    assert!(rt; matches!(table.slot_use(second), SlotUse::Closing { owner: 8 }));
-    table.ended(9, 1, EndCause::Quit, Moment(4), first);
-    assert!(rt; matches!(table.slot_use(first), SlotUse::Closing { owner: 9 }));
-    table.freed(second);
-    assert_eq!(rt; table.free(1), [false, true].as_slice());
-    assert!(rt; table.has_slot_in_use(1));
-    table.freed(first);
+/// The node's slots are both free.
+fn registers(rt: &impl Abort, alloc: Global, table: &mut SlotTable) -> Result<(), NoMemory> {
+    let node = registration(rt, alloc)?;
+    table.registered(1, &node, Moment(1))?;
+    assert!(rt; table.free(1) == BOTH);
+    Ok(())
+}
+
+fn are_both_held(table: &SlotTable) -> bool {
+    table.load(1) == 2 && table.held(1) == 2 && table.uses(1).len() == 2
+}
+
+/// Both slots are held, the second for this choice.
+fn reserves(rt: &impl Abort, table: &mut SlotTable, choice: u16) -> Result<(), NoMemory> {
+    table.reserved(7, 1, FIRST, 0, Moment(2))?;
+    table.reserved(8, 2, SECOND, choice, Moment(2))?;
+    assert!(rt; are_both_held(table));
+    Ok(())
+}
+
+fn does_first_run(table: &SlotTable) -> bool {
+    matches!(
+        table.slot_use(FIRST),
+        SlotUse::Busy {
+            binding: 1,
+            owner: 7,
+            ..
+        }
+    )
+}
+
+/// The first slot runs a session.
+fn binds(rt: &impl Abort, alloc: Global, table: &mut SlotTable) -> Result<(), NoMemory> {
+    let caps = Caps::new(alloc);
+    table.bound(7, 1, FIRST, session(rt, b"a"), &caps, Moment(3))?;
+    assert!(rt; does_first_run(table));
+    Ok(())
+}
+
+/// The start on the second slot fails with an orphan.
+fn fails(rt: &impl Abort, table: &mut SlotTable) {
+    let orphan = Some(session(rt, b"a"));
+    table.failed(8, 2, SECOND, FailWhy::Late, orphan, false, Moment(3));
+    assert!(rt; does_first_run(table));
+    assert!(rt; matches!(table.slot_use(SECOND), SlotUse::Closing { owner: 8 }));
+}
+
+fn ends_first(rt: &impl Abort, table: &mut SlotTable) {
+    table.ended(9, 1, EndCause::Quit, Moment(4), FIRST);
+    assert!(rt; matches!(table.slot_use(FIRST), SlotUse::Closing { owner: 9 }));
+}
+
+fn frees_second(rt: &impl Abort, table: &mut SlotTable) {
+    table.freed(SECOND);
+    assert!(rt; table.free(1) == ONLY_SECOND && table.has_slot_in_use(1));
+}
+
+fn frees_first(rt: &impl Abort, table: &mut SlotTable) {
+    table.freed(FIRST);
     assert!(rt; !table.has_slot_in_use(1));
+}
+
+fn forgets(rt: &impl Abort, table: &mut SlotTable) {
     table.forget(1);
     assert!(rt; table.free(1).is_empty());
-    // A law, which does nothing when it runs.
-    other_changes_keep();
+}
+
+fn go_round(rt: &impl Abort, alloc: Global, table: &mut SlotTable) -> Result<(), NoMemory> {
+    registers(rt, alloc, table)?;
+    reserves(rt, table, 0)?;
+    binds(rt, alloc, table)?;
+    fails(rt, table);
+    ends_first(rt, table);
+    frees_second(rt, table);
+    frees_first(rt, table);
+    forgets(rt, table);
+    Ok(())
+}
+
+/// One node of two slots: the first runs a session that ends, the second is held until its start fails with an orphan.
+#[test]
+fn slots_go_round(rt: HostRuntime) -> Result<(), NoMemory> {
+    let mut table = SlotTable::new(rt.alloc());
+    go_round(&rt, rt.alloc(), &mut table)
+}
+
+fn is_second_held(table: &SlotTable) -> bool {
+    matches!(
+        table.slot_use(SECOND),
+        SlotUse::Held {
+            request: 2,
+            choice: 3,
+            owner: 8
+        }
+    )
+}
+
+fn lapses(rt: &impl Abort, table: &mut SlotTable) {
+    table.lapsed(1, Moment(4));
+    assert!(rt; table.slot_use(FIRST).is_free() && is_second_held(table));
+    assert!(rt; table.load(1) == 1 && table.held(1) == 1);
+}
+
+fn end_by_lapse(rt: &impl Abort, alloc: Global, table: &mut SlotTable) -> Result<(), NoMemory> {
+    registers(rt, alloc, table)?;
+    reserves(rt, table, 3)?;
+    binds(rt, alloc, table)?;
+    lapses(rt, table);
     Ok(())
 }
 
 /// A lapse frees the busy slot and leaves the held one.
 #[test]
-fn a_lapse_ends_sessions(rt: HostRuntime) -> Result<(), Fail> {
-    let first = SlotId { node: 1, index: 0 };
-    let second = SlotId { node: 1, index: 1 };
-    let session = SessionId::from_bytes(b"a").ok_or("no session id")?;
+fn a_lapse_ends_sessions(rt: HostRuntime) -> Result<(), NoMemory> {
     let mut table = SlotTable::new(rt.alloc());
-    let node = registration(rt.alloc())?;
-    table
-        .registered(1, &node, Moment(1))
-        .map_err(|_| "no memory")?;
-    table
-        .reserved(7, 1, first, 0, Moment(2))
-        .map_err(|_| "no memory")?;
-    table
-        .reserved(8, 2, second, 3, Moment(2))
-        .map_err(|_| "no memory")?;
-    let caps = Caps::new(rt.alloc());
-    table
-        .bound(7, 1, first, session, &caps, Moment(3))
-        .map_err(|_| "no memory")?;
-    table.lapsed(1, Moment(4));
-    assert!(rt; table.slot_use(first).is_free());
-    assert!(rt;
-        matches!(
-            table.slot_use(second),
-            SlotUse::Held {
-                request: 2,
-                choice: 3,
-                owner: 8
-            }
-        )
-    );
-    assert_eq!(rt; table.load(1), 1);
-    assert_eq!(rt; table.held(1), 1);
-    Ok(())
+    end_by_lapse(&rt, rt.alloc(), &mut table)
 }

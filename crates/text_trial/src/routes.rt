@@ -1,79 +1,104 @@
 //! Paths and methods with their routes, and ids of nodes.
+use grid_types::NoMemory;
 use router_core::{RouteFault, Routed, Router, node_number, route};
-use std::test::Fail;
+use std::alloc::Global;
+use std::process::Abort;
 
-/// The table of paths and methods, and what comes before and behind a path.
-#[test]
-fn requests_have_their_routes(rt: HostRuntime) -> Result<(), Fail> {
-    let router = Router::new(rt.alloc()).ok().ok_or("no memory")?;
-    let relayed = Routed::Relay {
-        id: b"a",
-        target: b"/session/a/url?x=1",
-    };
-    for (method, target, want) in [
-        ("POST", "/session", Ok(Routed::NewSession)),
-        ("POST", "/wd/hub/session", Ok(Routed::NewSession)),
-        ("POST", "http://h/wd/hub/session?x", Ok(Routed::NewSession)),
-        ("DELETE", "/session/a", Ok(Routed::DeleteSession(b"a"))),
-        ("DELETE", "/session/a?q", Ok(Routed::DeleteSession(b"a"))),
-        ("GET", "/session/a/url?x=1", Ok(relayed)),
-        ("POST", "/wd/hub/session/a/url?x=1", Ok(relayed)),
-        ("GET", "/status", Ok(Routed::Status)),
-        ("GET", "/se/grid/newsessionqueue/queue", Ok(Routed::Queue)),
-        (
-            "DELETE",
-            "/se/grid/newsessionqueue/queue",
-            Ok(Routed::ClearQueue),
-        ),
-        ("POST", "/se/grid/distributor/node", Ok(Routed::Register)),
-        (
-            "DELETE",
-            "/se/grid/distributor/node/7",
-            Ok(Routed::Remove(b"7")),
-        ),
-        (
-            "POST",
-            "/se/grid/distributor/node/7/drain",
-            Ok(Routed::Drain(b"7")),
-        ),
-        (
-            "POST",
-            "/se/grid/distributor/node/7/beat",
-            Ok(Routed::Beat(b"7")),
-        ),
-        ("PUT", "/session", Err(RouteFault::UnknownMethod)),
-        ("post", "/session", Err(RouteFault::UnknownMethod)),
-        ("GET", "/nothing", Err(RouteFault::UnknownCommand)),
-        ("GET", "http://h", Err(RouteFault::UnknownCommand)),
-        ("DELETE", "/session/", Err(RouteFault::UnknownCommand)),
-        ("GET", "/session/a/", Err(RouteFault::UnknownCommand)),
-        ("GET", "/session//url", Err(RouteFault::UnknownCommand)),
-        ("GET", "/status/", Err(RouteFault::UnknownCommand)),
-        (
-            "GET",
-            "/wd/hub/wd/hub/status",
-            Err(RouteFault::UnknownCommand),
-        ),
-    ] {
-        assert_eq!(rt;
-            router.route(method.as_bytes(), target.as_bytes()),
-            want,
-            "{method} {target}"
-        );
+const RELAYED: Routed<'static> = Routed::Relay {
+    id: b"a",
+    target: b"/session/a/url?x=1",
+};
+
+/// A method, a target and its route.
+type Case = (
+    &'static str,
+    &'static str,
+    Result<Routed<'static>, RouteFault>,
+);
+
+/// Paths and methods, and what comes before and behind a path.
+const CASES: &[Case] = &[
+    ("POST", "/session", Ok(Routed::NewSession)),
+    ("POST", "/wd/hub/session", Ok(Routed::NewSession)),
+    ("POST", "http://h/wd/hub/session?x", Ok(Routed::NewSession)),
+    ("DELETE", "/session/a", Ok(Routed::DeleteSession(b"a"))),
+    ("DELETE", "/session/a?q", Ok(Routed::DeleteSession(b"a"))),
+    ("GET", "/session/a/url?x=1", Ok(RELAYED)),
+    ("POST", "/wd/hub/session/a/url?x=1", Ok(RELAYED)),
+    ("GET", "/status", Ok(Routed::Status)),
+    ("GET", "/se/grid/newsessionqueue/queue", Ok(Routed::Queue)),
+    (
+        "DELETE",
+        "/se/grid/newsessionqueue/queue",
+        Ok(Routed::ClearQueue),
+    ),
+    ("POST", "/se/grid/distributor/node", Ok(Routed::Register)),
+    (
+        "DELETE",
+        "/se/grid/distributor/node/7",
+        Ok(Routed::Remove(b"7")),
+    ),
+    (
+        "POST",
+        "/se/grid/distributor/node/7/drain",
+        Ok(Routed::Drain(b"7")),
+    ),
+    (
+        "POST",
+        "/se/grid/distributor/node/7/beat",
+        Ok(Routed::Beat(b"7")),
+    ),
+    ("PUT", "/session", Err(RouteFault::UnknownMethod)),
+    ("post", "/session", Err(RouteFault::UnknownMethod)),
+    ("GET", "/nothing", Err(RouteFault::UnknownCommand)),
+    ("GET", "http://h", Err(RouteFault::UnknownCommand)),
+    ("DELETE", "/session/", Err(RouteFault::UnknownCommand)),
+    ("GET", "/session/a/", Err(RouteFault::UnknownCommand)),
+    ("GET", "/session//url", Err(RouteFault::UnknownCommand)),
+    ("GET", "/status/", Err(RouteFault::UnknownCommand)),
+    (
+        "GET",
+        "/wd/hub/wd/hub/status",
+        Err(RouteFault::UnknownCommand),
+    ),
+];
+
+fn are_routed(rt: &impl Abort, router: &Router) {
+    for (method, target, want) in CASES {
+        let told = router.route(method.as_bytes(), target.as_bytes());
+        assert!(rt; told == *want, "{method} {target}");
     }
-    assert_eq!(rt; route(rt.alloc(), b"GET", b"/status"), Ok(Routed::Status));
-    assert_eq!(rt;
-        route(rt.alloc(), b"GET", b"/session/\xff/url"),
-        Err(RouteFault::UnknownCommand)
-    );
-    Ok(())
+}
+
+fn one_is_routed(alloc: Global) -> bool {
+    route(alloc, b"GET", b"/status") == Ok(Routed::Status)
+        && route(alloc, b"GET", b"/session/\xff/url") == Err(RouteFault::UnknownCommand)
 }
 
 #[test]
+fn requests_have_their_routes(rt: HostRuntime) -> Result<(), NoMemory> {
+    let router = Router::new(rt.alloc())?;
+    are_routed(&rt, &router);
+    assert!(rt; one_is_routed(rt.alloc()));
+    Ok(())
+}
+
+const IDS: &[(&str, Option<u32>)] = &[
+    ("7", Some(7)),
+    ("4294967295", Some(u32::MAX)),
+    ("", None),
+    ("07", None),
+    ("+7", None),
+    ("-7", None),
+    ("7 ", None),
+    ("0x7", None),
+    ("seven", None),
+    ("4294967296", None),
+];
+
+#[test]
 fn ids_of_nodes_are_numbers(rt: HostRuntime) {
-    assert_eq!(rt; node_number(b"7"), Some(7));
-    assert_eq!(rt; node_number(b"4294967295"), Some(u32::MAX));
-    for id in ["", "07", "+7", "-7", "7 ", "0x7", "seven", "4294967296"] {
-        assert_eq!(rt; node_number(id.as_bytes()), None, "{id}");
+    for (id, number) in IDS {
+        assert!(rt; node_number(id.as_bytes()) == *number, "{id}");
     }
 }
