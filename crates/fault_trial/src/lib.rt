@@ -4,12 +4,9 @@
 
 #[cfg(test)]
 mod failing;
-mod grid;
 #[cfg(test)]
-mod malicious;
+mod grid;
 #[cfg(test)]
 mod plays;
 #[cfg(test)]
 mod worked;
-
-pub use grid::{asked, served};

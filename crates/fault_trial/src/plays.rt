@@ -1,69 +1,108 @@
 //! Whole connections over a shared hub, whatever the pieces in which their bytes come and go.
 ghost use Rattle.hub_cell.specs.Passes.{IsOf};
 
-use crate::grid::{asked, served};
+use crate::grid::{Wanted, asked, serves};
 use grid_types::HubConfig;
 use hub_cell::{Pass, SharedHub};
 use hub_serving::Served;
-use play_tables::{PIECES, Play, Seen, client_in, nodes_of, registers, sent, text_of};
+use play_tables::{PIECES, Play, client_in, nodes_of, registers, sent, text_of};
 use std::alloc::Global;
 use std::process::Abort;
 use std::sync::Wait;
-use std::test::Fail;
 
-fn played_on<R: Wait>(
+/// A play over one hub: the requests that come before, those of the play, and what is to be seen.
+#[derive(Clone, Copy)]
+struct Scene<'a> {
+    play: &'a Play,
+    registers: &'a [u8],
+    sends: &'a [u8],
+    wanted: Wanted<'a>,
+}
+
+/// Whether it goes so over this hub where a read gives and a write takes so many bytes at most.
+fn goes_over<R: Wait>(
     rt: &R,
     alloc: Global,
     hub: &SharedHub,
     pass: &mut Pass,
-    play: &Play,
+    scene: &Scene<'_>,
     gives: usize,
     takes: usize,
-) -> Option<Seen>
+) -> Option<bool>
     requires { IsOf hub.now pass.old }
     ensures { IsOf hub.now pass.new }
 {
-    let registers = registers(alloc, play.nodes)?;
-    asked(rt, alloc, hub, pass, registers.as_slice())?;
-    let sends = sent(alloc, play.sends)?;
-    let client = client_in(sends.as_slice(), gives, takes);
-    let mut nodes = nodes_of(alloc, play.replies, &[])?;
-    served(rt, alloc, hub, pass, &mut nodes, &client)
+    asked(rt, alloc, hub, pass, scene.registers)?;
+    let client = client_in(scene.sends, gives, takes);
+    let mut nodes = nodes_of(alloc, scene.play.replies, &[])?;
+    serves(rt, alloc, hub, pass, &mut nodes, &client, &scene.wanted)
 }
 
-// What comes of it where a read gives and a write takes so many bytes at most.
-fn played<R: Wait>(rt: &R, alloc: Global, play: &Play, gives: usize, takes: usize) -> Option<Seen> {
-    // A request waits for a second.
-    let config = HubConfig {
+/// A request waits for a second.
+fn config() -> HubConfig {
+    HubConfig {
         timeout_ms: 1_000,
         ..HubConfig::default()
-    };
+    }
+}
+
+/// Over a hub of its own.
+fn goes<R: Wait>(
+    rt: &R,
+    alloc: Global,
+    scene: &Scene<'_>,
+    gives: usize,
+    takes: usize,
+) -> Option<bool> {
+    let config = config();
     if !config.is_valid() {
         return None;
     }
     let (hub, mut pass) = SharedHub::new(rt, alloc, config, 0, 1).ok()?;
-    let seen = played_on(rt, alloc, &hub, &mut pass, play, gives, takes);
+    let so = goes_over(rt, alloc, &hub, &mut pass, scene, gives, takes);
     pass.let_go();
     hub.close(rt);
-    seen
+    so
 }
 
-/// Plays it in each of the pieces, and compares what comes of it.
-pub(crate) fn goes_so<R: Wait + Abort>(rt: &R, alloc: Global, play: &Play) -> Result<(), Fail> {
-    let told = text_of(alloc, play.told).ok_or("memory")?;
+/// In each of the pieces.
+fn goes_in_pieces<R: Wait>(rt: &R, alloc: Global, scene: &Scene<'_>) -> Option<bool> {
+    for (gives, takes) in &PIECES {
+        if !goes(rt, alloc, scene, *gives, *takes)? {
+            return Some(false);
+        }
+    }
+    Some(true)
+}
+
+/// Whether the play goes as it says in each of the pieces.
+fn goes_so<R: Wait>(rt: &R, alloc: Global, play: &Play) -> Option<bool> {
+    let told = text_of(alloc, play.told)?;
+    let registers = registers(alloc, play.nodes)?;
+    let sends = sent(alloc, play.sends)?;
     let ended = Served {
         frames: play.frames,
         end: play.end,
         short: false,
     };
-    for (gives, takes) in PIECES {
-        let seen = played(rt, alloc, play, gives, takes).ok_or("memory")?;
-        assert_eq!(rt;
-            std::str::from_utf8(seen.written.as_slice()),
-            Ok(told.as_str())
-        );
-        assert_eq!(rt; seen.ended, Ok(ended));
-        assert_eq!(rt; seen.asks.as_str(), play.asks);
+    let wanted = Wanted {
+        written: told.as_bytes(),
+        ended: Ok(ended),
+        asks: play.asks,
+    };
+    let scene = Scene {
+        play,
+        registers: registers.as_slice(),
+        sends: sends.as_slice(),
+        wanted,
+    };
+    goes_in_pieces(rt, alloc, &scene)
+}
+
+pub(crate) fn go_so<R: Wait + Abort>(rt: &R, alloc: Global, plays: &[Play]) -> Option<()> {
+    for play in plays {
+        let so = goes_so(rt, alloc, play)?;
+        assert!(rt; so, "{}", play.asks);
     }
-    Ok(())
+    Some(())
 }

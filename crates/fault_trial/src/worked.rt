@@ -1,22 +1,30 @@
-//! Worked connections, and nodes that misbehave.
-use crate::plays::goes_so;
-use play_tables::{DRAINED_STAYS, MISBEHAVING, WORKED};
-use std::test::Fail;
+//! Worked connections, nodes that misbehave, and malicious bytes.
+use crate::plays::go_so;
+use grid_types::NoMemory;
+use play_tables::{DRAINED_STAYS, MALICIOUS, MISBEHAVING, MaliciousRow, WORKED, malicious_play};
+use std::alloc::Global;
+use std::process::Abort;
+use std::sync::Wait;
 
 #[test]
-fn connections_go_as_worked_out(rt: HostRuntime) -> Result<(), Fail> {
-    let alloc = rt.alloc();
-    for play in &WORKED {
-        goes_so(&rt, alloc, play)?;
-    }
-    goes_so(&rt, alloc, &DRAINED_STAYS)
+fn connections_go_as_worked_out(rt: HostRuntime) -> Result<(), NoMemory> {
+    go_so(&rt, rt.alloc(), &WORKED).ok_or(NoMemory)?;
+    go_so(&rt, rt.alloc(), &[DRAINED_STAYS]).ok_or(NoMemory)
 }
 
 #[test]
-fn nodes_misbehave(rt: HostRuntime) -> Result<(), Fail> {
-    let alloc = rt.alloc();
-    for play in &MISBEHAVING {
-        goes_so(&rt, alloc, play)?;
+fn nodes_misbehave(rt: HostRuntime) -> Result<(), NoMemory> {
+    go_so(&rt, rt.alloc(), &MISBEHAVING).ok_or(NoMemory)
+}
+
+fn refuses<R: Wait + Abort>(rt: &R, alloc: Global, rows: &[MaliciousRow]) -> Option<()> {
+    for row in rows {
+        go_so(rt, alloc, &[malicious_play(row)])?;
     }
-    Ok(())
+    Some(())
+}
+
+#[test]
+fn malicious_bytes_are_refused(rt: HostRuntime) -> Result<(), NoMemory> {
+    refuses(&rt, rt.alloc(), &MALICIOUS).ok_or(NoMemory)
 }

@@ -1,8 +1,9 @@
 //! What goes before each request: own nodes give a sign of life, the hub sweeps, and idle sessions are ended.
 use crate::plays::{makes_entries, waiting};
-use grid_types::{HubConfig, NodeNo};
+use grid_types::{HubConfig, NoMemory, NodeNo};
 use play_tables::{BEATEN_STAYS, IDLE_ENDS, NONE_MATCHES, Play, SILENT_IS_SUSPECT, SILENT_LAPSES};
-use std::test::Fail;
+use std::alloc::Global;
+use std::process::Abort;
 
 // A connection, the hub's own nodes, how many milliseconds a request waits, and the entries behind the registration.
 type Row = (Play, &'static [NodeNo], u64, &'static str);
@@ -29,20 +30,26 @@ const ROWS: [Row; 4] = [
     ),
 ];
 
-#[test]
-fn nodes_beat_and_idle_sessions_end_before_a_request(rt: HostRuntime) -> Result<(), Fail> {
-    let alloc = rt.alloc();
-    for (play, own, timeout_ms, entries) in &ROWS {
-        makes_entries(&rt, alloc, play, own, waiting(*timeout_ms), entries)?;
+fn go_so(rt: &impl Abort, alloc: Global, rows: &[Row]) -> Option<()> {
+    for (play, own, timeout_ms, entries) in rows {
+        let so = makes_entries(alloc, play, own, waiting(*timeout_ms), Some(entries))?;
+        assert!(rt; so, "{entries}");
     }
-    Ok(())
+    Some(())
 }
 
 #[test]
-fn what_no_slot_matches_is_refused(rt: HostRuntime) -> Result<(), Fail> {
+fn nodes_beat_and_idle_sessions_end_before_a_request(rt: HostRuntime) -> Result<(), NoMemory> {
+    go_so(&rt, rt.alloc(), &ROWS).ok_or(NoMemory)
+}
+
+#[test]
+fn what_no_slot_matches_is_refused(rt: HostRuntime) -> Result<(), NoMemory> {
     let config = HubConfig {
         reject_unsupported: true,
         ..HubConfig::default()
     };
-    makes_entries(&rt, rt.alloc(), &NONE_MATCHES, &[1], config, "beat beat ")
+    let so = makes_entries(rt.alloc(), &NONE_MATCHES, &[1], config, Some("beat beat "));
+    assert!(rt; so.ok_or(NoMemory)?);
+    Ok(())
 }

@@ -1,34 +1,59 @@
-//! A hub of one thread with its nodes, connections over it, and what its journal tells.
-use grid_outside::{MemClock, MemNodes};
+//! Connections over a hub of one thread with its nodes, and what its journal tells.
+use grid_outside::{MemClock, MemLink, MemNodes};
 use grid_types::{Change, Entry, Moment, NodeNo};
+use hub_conn::{ConnFault, Served};
 use hub_core::LocalHub;
 use local_driver::serve_local;
-use play_tables::{Client, Seen, asks_of, link_of, plain};
+use play_tables::{Client, asks_of, link_of, plain};
 use std::alloc::Global;
 
-/// Serves the client from moment 0 on. The nodes `own` give a sign of life before each request.
-pub fn served(
+/// What is to be seen of a connection: what is written, how it ends, and what the nodes are asked.
+#[derive(Clone, Copy)]
+pub(crate) struct Wanted<'a> {
+    pub(crate) written: &'a [u8],
+    pub(crate) ended: Result<Served, ConnFault>,
+    pub(crate) asks: &'a str,
+}
+
+/// Serves the connection from moment 0 on. The nodes `own` give a sign of life before each request.
+fn served(
+    alloc: Global,
+    hub: &mut LocalHub,
+    own: &[NodeNo],
+    nodes: &mut MemNodes,
+    link: &mut MemLink,
+) -> Result<Served, ConnFault> {
+    let mut clock = MemClock::new(Moment(0));
+    serve_local(alloc, hub, own, link, nodes, &mut clock)
+}
+
+fn are_asked(alloc: Global, nodes: &MemNodes, wanted: &str) -> Option<bool> {
+    let asks = asks_of(alloc, nodes)?;
+    Some(asks.as_str() == wanted)
+}
+
+/// Whether the client is served so. None is want of memory, as everywhere here.
+pub(crate) fn serves(
     alloc: Global,
     hub: &mut LocalHub,
     own: &[NodeNo],
     nodes: &mut MemNodes,
     client: &Client<'_>,
-) -> Option<Seen> {
+    wanted: &Wanted<'_>,
+) -> Option<bool> {
     let mut link = link_of(alloc, client)?;
-    let mut clock = MemClock::new(Moment(0));
-    let ended = serve_local(alloc, hub, own, &mut link, nodes, &mut clock);
-    Some(Seen {
-        written: Vec::from_slice(alloc, link.taken()).ok()?,
-        ended,
-        asks: asks_of(alloc, nodes)?,
-    })
+    let ended = served(alloc, hub, own, nodes, &mut link);
+    let is_told = ended == wanted.ended && link.taken() == wanted.written;
+    let is_asked = are_asked(alloc, nodes, wanted.asks)?;
+    Some(is_told && is_asked)
 }
 
-/// What the hub answers to these requests, where no node is asked or gives a sign of life.
-pub fn asked(alloc: Global, hub: &mut LocalHub, sends: &[u8]) -> Option<Vec<u8>> {
+/// Makes these requests, for which no node is asked.
+pub(crate) fn asked(alloc: Global, hub: &mut LocalHub, sends: &[u8]) -> Option<MemLink> {
+    let mut link = link_of(alloc, &plain(sends))?;
     let mut nodes = MemNodes::new(alloc, Vec::new(alloc));
-    let seen = served(alloc, hub, &[], &mut nodes, &plain(sends))?;
-    Some(seen.written)
+    let _ended = served(alloc, hub, &[], &mut nodes, &mut link);
+    Some(link)
 }
 
 fn word_of(change: &Change) -> &'static str {
@@ -52,11 +77,21 @@ fn word_of(change: &Change) -> &'static str {
     }
 }
 
-/// The entries but for the first ones, so many, each as one word.
-pub fn entries_of(alloc: Global, journal: &[Entry], first: usize) -> Option<String> {
-    let mut told = String::new(alloc);
-    for entry in journal.iter().skip(first) {
-        told.push_str(word_of(&entry.change)).ok()?;
+fn are(entries: &[Entry], words: &str) -> bool {
+    let mut rest = words.as_bytes();
+    for entry in entries {
+        match rest.strip_prefix(word_of(&entry.change).as_bytes()) {
+            Some(more) => rest = more,
+            None => return false,
+        }
     }
-    Some(told)
+    rest.is_empty()
+}
+
+/// Whether the entries but for the first ones, so many, are these, each as one word.
+pub(crate) fn are_behind(journal: &[Entry], first: usize, words: &str) -> bool {
+    match journal.get(first..) {
+        Some(entries) => are(entries, words),
+        None => false,
+    }
 }

@@ -6,10 +6,9 @@
 mod beginning;
 #[cfg(test)]
 mod failing;
+#[cfg(test)]
 mod grid;
 #[cfg(test)]
 mod plays;
 #[cfg(test)]
 mod worked;
-
-pub use grid::{asked, entries_of, served};

@@ -1,12 +1,11 @@
 //! Whole connections over a hub of one thread, whatever the pieces in which their bytes come and go.
-use crate::grid::{asked, entries_of, served};
+use crate::grid::{Wanted, are_behind, asked, serves};
 use grid_types::{HubConfig, NodeNo};
 use hub_conn::Served;
 use hub_core::LocalHub;
-use play_tables::{PIECES, Play, Seen, client_in, nodes_of, registers, sent, text_of};
+use play_tables::{PIECES, Play, client_in, nodes_of, registers, sent, text_of};
 use std::alloc::Global;
 use std::process::Abort;
-use std::test::Fail;
 
 /// Where a request waits for so many milliseconds.
 pub(crate) fn waiting(timeout_ms: u64) -> HubConfig {
@@ -16,72 +15,99 @@ pub(crate) fn waiting(timeout_ms: u64) -> HubConfig {
     }
 }
 
-// What comes of it where a read gives and a write takes so many bytes at most, and the entries behind the registrations.
-fn played(
+/// A play over one hub: how the hub is set up, its own nodes, the requests that come before, those of the play, what is to be seen, and
+/// the entries that the play makes, where these are compared.
+#[derive(Clone, Copy)]
+struct Scene<'a> {
+    play: &'a Play,
+    config: HubConfig,
+    own: &'a [NodeNo],
+    registers: &'a [u8],
+    sends: &'a [u8],
+    wanted: Wanted<'a>,
+    entries: Option<&'a str>,
+}
+
+fn makes(hub: &LocalHub, first: usize, entries: Option<&str>) -> bool {
+    match entries {
+        Some(words) => are_behind(hub.journal(), first, words),
+        None => true,
+    }
+}
+
+/// Whether it goes so over this hub where a read gives and a write takes so many bytes at most.
+fn goes_over(
+    alloc: Global,
+    hub: &mut LocalHub,
+    scene: &Scene<'_>,
+    gives: usize,
+    takes: usize,
+) -> Option<bool> {
+    asked(alloc, hub, scene.registers)?;
+    let first = hub.journal().len();
+    let client = client_in(scene.sends, gives, takes);
+    let mut nodes = nodes_of(alloc, scene.play.replies, &[])?;
+    let is_seen = serves(alloc, hub, scene.own, &mut nodes, &client, &scene.wanted)?;
+    Some(is_seen && makes(hub, first, scene.entries))
+}
+
+/// Over a hub of its own.
+fn goes(alloc: Global, scene: &Scene<'_>, gives: usize, takes: usize) -> Option<bool> {
+    if !scene.config.is_valid() {
+        return None;
+    }
+    let mut hub = LocalHub::new(alloc, scene.config).ok()?;
+    goes_over(alloc, &mut hub, scene, gives, takes)
+}
+
+/// In each of the pieces.
+fn goes_in_pieces(alloc: Global, scene: &Scene<'_>) -> Option<bool> {
+    for (gives, takes) in &PIECES {
+        if !goes(alloc, scene, *gives, *takes)? {
+            return Some(false);
+        }
+    }
+    Some(true)
+}
+
+/// Whether the play goes as it says in each of the pieces, and makes these entries where they are compared.
+pub(crate) fn makes_entries(
     alloc: Global,
     play: &Play,
     own: &[NodeNo],
     config: HubConfig,
-    gives: usize,
-    takes: usize,
-) -> Option<(Seen, String)> {
-    if !config.is_valid() {
-        return None;
-    }
-    let mut hub = LocalHub::new(alloc, config).ok()?;
+    entries: Option<&str>,
+) -> Option<bool> {
+    let told = text_of(alloc, play.told)?;
     let registers = registers(alloc, play.nodes)?;
-    asked(alloc, &mut hub, registers.as_slice())?;
-    let before = hub.journal().len();
     let sends = sent(alloc, play.sends)?;
-    let client = client_in(sends.as_slice(), gives, takes);
-    let mut nodes = nodes_of(alloc, play.replies, &[])?;
-    let seen = served(alloc, &mut hub, own, &mut nodes, &client)?;
-    let entries = entries_of(alloc, hub.journal(), before)?;
-    Some((seen, entries))
-}
-
-// Compares what came of it.
-fn is_so<R: Abort>(rt: &R, play: &Play, told: &str, seen: &Seen) {
     let ended = Served {
         frames: play.frames,
         end: play.end,
         short: false,
     };
-    assert_eq!(rt; std::str::from_utf8(seen.written.as_slice()), Ok(told));
-    assert_eq!(rt; seen.ended, Ok(ended));
-    assert_eq!(rt; seen.asks.as_str(), play.asks);
+    let wanted = Wanted {
+        written: told.as_bytes(),
+        ended: Ok(ended),
+        asks: play.asks,
+    };
+    let scene = Scene {
+        play,
+        config,
+        own,
+        registers: registers.as_slice(),
+        sends: sends.as_slice(),
+        wanted,
+        entries,
+    };
+    goes_in_pieces(alloc, &scene)
 }
 
-/// Plays it in each of the pieces where a request waits for a second, and compares what comes of it.
-pub(crate) fn goes_so<R: Abort>(
-    rt: &R,
-    alloc: Global,
-    play: &Play,
-    own: &[NodeNo],
-) -> Result<(), Fail> {
-    let told = text_of(alloc, play.told).ok_or("memory")?;
-    for (gives, takes) in PIECES {
-        let played = played(alloc, play, own, waiting(1_000), gives, takes);
-        let (seen, _entries) = played.ok_or("memory")?;
-        is_so(rt, play, told.as_str(), &seen);
+/// Plays them where a request waits for a second.
+pub(crate) fn go_so(rt: &impl Abort, alloc: Global, plays: &[Play], own: &[NodeNo]) -> Option<()> {
+    for play in plays {
+        let so = makes_entries(alloc, play, own, waiting(1_000), None)?;
+        assert!(rt; so, "{}", play.asks);
     }
-    Ok(())
-}
-
-/// Plays it in each of the pieces, and compares what comes of it and the entries.
-pub(crate) fn makes_entries<R: Abort>(
-    rt: &R,
-    alloc: Global,
-    play: &Play,
-    own: &[NodeNo],
-    config: HubConfig,
-    wanted: &str,
-) -> Result<(), Fail> {
-    let told = text_of(alloc, play.told).ok_or("memory")?;
-    for (gives, takes) in PIECES {
-        let (seen, entries) = played(alloc, play, own, config, gives, takes).ok_or("memory")?;
-        is_so(rt, play, told.as_str(), &seen);
-        assert_eq!(rt; entries.as_str(), wanted);
-    }
-    Ok(())
+    Some(())
 }

@@ -1,88 +1,137 @@
 //! Words of the programs with what they say.
-use grid_types::Text;
+use crate::lists::list;
 use server_words::*;
-use std::alloc::Global;
-use std::test::Fail;
+use std::alloc::{AllocError, Global};
 
-fn list(alloc: Global, words: &[&str]) -> Result<Vec<Text>, Fail> {
-    let mut list = Vec::new(alloc);
-    for word in words {
-        list.push(Text::of(alloc, word).ok().ok_or("memory")?)?;
+fn is_that_hub(words: &HubWords) -> bool {
+    words.port == 80
+        && words.workers == 0
+        && words.handlers == 64
+        && words.config.idle_ms == 10_000
+        && words.config.timeout_ms == 300_000
+}
+
+fn is_hub_said(alloc: Global) -> Result<bool, AllocError> {
+    let given: &[&str] = &["--port", "+080", "--workers=-0", "--session-timeout", "10"];
+    let list = list(alloc, given)?;
+    match hub_words(alloc, list.as_slice()) {
+        Ok(words) => Ok(is_that_hub(&words)),
+        Err(_) => Ok(false),
     }
-    Ok(list)
+}
+
+const NO_HUB: &[&[&str]] = &[
+    &["--port", "x"],
+    &["--port", "65536"],
+    &["--port", "1", "--port", "1"],
+    &["x"],
+    &["--help"],
+    &["--handlers", "129"],
+    &["--reject-unsupported-caps", "yes"],
+];
+
+fn is_no_hub(alloc: Global, words: &[&str]) -> Result<bool, AllocError> {
+    let list = list(alloc, words)?;
+    let said = hub_words(alloc, list.as_slice());
+    Ok(matches!(said, Err(WordsFault::Refused)))
 }
 
 #[test]
-fn words_of_the_hub(rt: HostRuntime) -> Result<(), Fail> {
-    let alloc = rt.alloc();
-    let given = ["--port", "+080", "--workers=-0", "--session-timeout", "10"];
-    let words = hub_words(alloc, list(alloc, given.as_slice())?.as_slice());
-    let words = words.ok().ok_or("they fit")?;
-    assert_eq!(rt; words.port, 80);
-    assert_eq!(rt; words.workers, 0);
-    assert_eq!(rt; words.handlers, 64);
-    assert_eq!(rt; words.config.idle_ms, 10_000);
-    assert_eq!(rt; words.config.timeout_ms, 300_000);
-    let refused: [&[&str]; 7] = [
-        &["--port", "x"],
-        &["--port", "65536"],
-        &["--port", "1", "--port", "1"],
-        &["x"],
-        &["--help"],
-        &["--handlers", "129"],
-        &["--reject-unsupported-caps", "yes"],
-    ];
-    for words in refused {
-        let fault = hub_words(alloc, list(alloc, words)?.as_slice()).err();
-        assert_eq!(rt; fault, Some(WordsFault::Refused));
-    }
-    Ok(())
-}
-
-#[test]
-fn words_of_the_node(rt: HostRuntime) -> Result<(), Fail> {
-    let alloc = rt.alloc();
-    let given = ["--hub=localhost:4444", "--slots", "64"];
-    let words = node_words(alloc, list(alloc, given.as_slice())?.as_slice());
-    let words = words.ok().ok_or("they fit")?;
-    assert_eq!(rt; words.hub.as_bytes(), b"localhost:4444".as_slice());
-    assert_eq!(rt; words.port, 5_555);
-    assert_eq!(rt; words.name.as_str(), "loop");
-    assert_eq!(rt; words.browser.as_str(), "chrome");
-    assert_eq!(rt; words.slots, 64);
-    let refused: [&[&str]; 3] = [&["--slots", "0"], &["--hub", ""], &["--hub", "a b"]];
-    for words in refused {
-        let fault = node_words(alloc, list(alloc, words)?.as_slice()).err();
-        assert_eq!(rt; fault, Some(WordsFault::Refused));
+fn words_of_the_hub(rt: HostRuntime) -> Result<(), AllocError> {
+    let said = is_hub_said(rt.alloc())?;
+    assert!(rt; said);
+    for words in NO_HUB {
+        let refused = is_no_hub(rt.alloc(), words)?;
+        assert!(rt; refused, "{words:?}");
     }
     Ok(())
 }
 
+fn is_that_node(words: &NodeWords) -> bool {
+    words.hub.as_bytes() == b"localhost:4444".as_slice()
+        && words.port == 5_555
+        && words.name.as_str() == "loop"
+        && words.browser.as_str() == "chrome"
+        && words.slots == 64
+}
+
+fn is_node_said(alloc: Global) -> Result<bool, AllocError> {
+    let given: &[&str] = &["--hub=localhost:4444", "--slots", "64"];
+    let list = list(alloc, given)?;
+    match node_words(alloc, list.as_slice()) {
+        Ok(words) => Ok(is_that_node(&words)),
+        Err(_) => Ok(false),
+    }
+}
+
+const NO_NODE: &[&[&str]] = &[&["--slots", "0"], &["--hub", ""], &["--hub", "a b"]];
+
+fn is_no_node(alloc: Global, words: &[&str]) -> Result<bool, AllocError> {
+    let list = list(alloc, words)?;
+    let said = node_words(alloc, list.as_slice());
+    Ok(matches!(said, Err(WordsFault::Refused)))
+}
+
 #[test]
-fn words_of_a_driver(rt: HostRuntime) -> Result<(), Fail> {
-    let alloc = rt.alloc();
-    let given = ["--driver=localhost:4445", "--browser-version", "126.0"];
-    let words = attach_words(alloc, list(alloc, given.as_slice())?.as_slice());
-    let words = words.ok().ok_or("they fit")?;
-    assert_eq!(rt; words.hub.as_bytes(), b"127.0.0.1:4444".as_slice());
-    assert_eq!(rt; words.driver.as_bytes(), b"localhost:4445".as_slice());
-    assert_eq!(rt; words.version.as_str(), "126.0");
-    assert_eq!(rt; words.platform.as_str(), "linux");
-    let refused: [(&[&str], &str); 3] = [
-        (
-            &["--slots", "65"],
-            "error: invalid value '65' for '--slots <slots>'",
-        ),
-        (&["--name", "a b"], "error: the value of --name is"),
-        (
-            &["--driver"],
-            "error: a value is required for '--driver <driver>'",
-        ),
-    ];
-    for (words, reason) in refused {
-        let fault = attach_words(alloc, list(alloc, words)?.as_slice()).err();
-        let text = format!(in alloc; "{}", fault.ok_or("a fault")?)?;
-        assert!(rt; text.as_str().starts_with(reason));
+fn words_of_the_node(rt: HostRuntime) -> Result<(), AllocError> {
+    let said = is_node_said(rt.alloc())?;
+    assert!(rt; said);
+    for words in NO_NODE {
+        let refused = is_no_node(rt.alloc(), words)?;
+        assert!(rt; refused, "{words:?}");
+    }
+    Ok(())
+}
+
+fn is_that_driver(words: &AttachWords) -> bool {
+    words.hub.as_bytes() == b"127.0.0.1:4444".as_slice()
+        && words.driver.as_bytes() == b"localhost:4445".as_slice()
+        && words.version.as_str() == "126.0"
+        && words.platform.as_str() == "linux"
+}
+
+fn is_driver_said(alloc: Global) -> Result<bool, AllocError> {
+    let given: &[&str] = &["--driver=localhost:4445", "--browser-version", "126.0"];
+    let list = list(alloc, given)?;
+    match attach_words(alloc, list.as_slice()) {
+        Ok(words) => Ok(is_that_driver(&words)),
+        Err(_) => Ok(false),
+    }
+}
+
+/// Words, and what the reason begins with.
+const NO_DRIVER: &[(&[&str], &str)] = &[
+    (
+        &["--slots", "65"],
+        "error: invalid value '65' for '--slots <slots>'",
+    ),
+    (&["--name", "a b"], "error: the value of --name is"),
+    (
+        &["--driver"],
+        "error: a value is required for '--driver <driver>'",
+    ),
+];
+
+fn begins(alloc: Global, fault: &AttachFault, reason: &str) -> Result<bool, AllocError> {
+    let text = format!(in alloc; "{fault}")?;
+    Ok(text.as_str().starts_with(reason))
+}
+
+fn is_no_driver(alloc: Global, words: &[&str], reason: &str) -> Result<bool, AllocError> {
+    let list = list(alloc, words)?;
+    match attach_words(alloc, list.as_slice()) {
+        Ok(_) => Ok(false),
+        Err(fault) => begins(alloc, &fault, reason),
+    }
+}
+
+#[test]
+fn words_of_a_driver(rt: HostRuntime) -> Result<(), AllocError> {
+    let said = is_driver_said(rt.alloc())?;
+    assert!(rt; said);
+    for (words, reason) in NO_DRIVER {
+        let refused = is_no_driver(rt.alloc(), words, reason)?;
+        assert!(rt; refused, "{reason}");
     }
     Ok(())
 }

@@ -6,4 +6,6 @@ mod arguments;
 #[cfg(test)]
 mod driver;
 #[cfg(test)]
+mod lists;
+#[cfg(test)]
 mod node;

@@ -1,29 +1,23 @@
 //! A node's program over TCP: it registers and serves a client.
+use crate::lists::list;
 use grid_node::node_main;
 use grid_sockets::TcpDoor;
 use grid_types::Text;
-use std::alloc::Global;
+use std::alloc::{AllocError, Global};
 use std::io::{Read, Write};
 use std::net::{Ipv4Addr, Net, TcpListener, TcpStream};
-use std::test::Fail;
 use std::{io, thread};
 
-/// A hub that takes one registration, and a client of the node; what the node answered to it.
-fn hub_and_client<R: Net<Listener = TcpListener, Stream = TcpStream>>(
-    rt: &R,
-    hub: &TcpListener,
-    port: u16,
-    answer: &mut [u8],
-) -> io::Result<usize> {
+/// Takes one registration.
+fn register(hub: &TcpListener) -> io::Result<()> {
     let (mut stream, _) = hub.accept()?;
     let mut piece = [0; 1_024];
     let _ = stream.read(&mut piece)?;
-    stream.write_all(b"HTTP/1.1 200 OK\r\nContent-Length: 20\r\n\r\n{\"value\":{\"node\":7}}")?;
-    drop(stream);
-    let mut client = TcpStream::connect(rt, (Ipv4Addr::LOCALHOST, port))?;
-    client.write_all(
-        b"POST /session HTTP/1.1\r\nConnection: close\r\nContent-Length: 2\r\n\r\n{}",
-    )?;
+    stream.write_all(b"HTTP/1.1 200 OK\r\nContent-Length: 20\r\n\r\n{\"value\":{\"node\":7}}")
+}
+
+/// Reads up to the end, or until the answer is full, and gives how many bytes came.
+fn read_answer(client: &mut TcpStream, answer: &mut [u8]) -> io::Result<usize> {
     let mut read = 0;
     for _ in 0..64 {
         let at = read.min(answer.len());
@@ -36,12 +30,29 @@ fn hub_and_client<R: Net<Listener = TcpListener, Stream = TcpStream>>(
     Ok(read)
 }
 
-fn words(alloc: Global, list: &[&str]) -> Result<Vec<Text>, Fail> {
-    let mut words = Vec::new(alloc);
-    for word in list {
-        words.push(Text::of(alloc, word).ok().ok_or("memory")?)?;
-    }
-    Ok(words)
+fn ask(client: &mut TcpStream, answer: &mut [u8]) -> io::Result<usize> {
+    client.write_all(
+        b"POST /session HTTP/1.1\r\nConnection: close\r\nContent-Length: 2\r\n\r\n{}",
+    )?;
+    read_answer(client, answer)
+}
+
+/// A hub that takes one registration, and a client of the node; what the node answered to it.
+fn hub_and_client<R: Net<Listener = TcpListener, Stream = TcpStream>>(
+    rt: &R,
+    hub: &TcpListener,
+    port: u16,
+    answer: &mut [u8],
+) -> io::Result<usize> {
+    register(hub)?;
+    let mut client = TcpStream::connect(rt, (Ipv4Addr::LOCALHOST, port))?;
+    ask(&mut client, answer)
+}
+
+fn words(alloc: Global, hub: u16, port: u16) -> Result<Vec<Text>, AllocError> {
+    let hub = format!(in alloc; "--hub=127.0.0.1:{hub}")?;
+    let port = format!(in alloc; "--port={port}")?;
+    list(alloc, &[hub.as_str(), port.as_str()])
 }
 
 /// A port that is free now.
@@ -53,29 +64,29 @@ fn free_port<R: Net<Listener = TcpListener, Stream = TcpStream>>(rt: &R) -> io::
     )
 }
 
+const ID: &[u8] = b"\"sessionId\":\"00000000-0000-0007-0000-000000000001\"";
+
+fn has_id(answer: &[u8], read: usize) -> bool {
+    answer[..read.min(answer.len())]
+        .windows(ID.len())
+        .any(|part| part == ID)
+}
+
 /// The node registers, serves one link under the number that it got, and ends with its door.
 #[test]
-fn a_registered_node_serves_a_client(rt: HostRuntime) -> Result<(), Fail> {
+fn a_registered_node_serves_a_client(rt: HostRuntime) -> io::Result<()> {
     let alloc = rt.alloc();
     let hub = TcpListener::bind(&rt, (Ipv4Addr::LOCALHOST, 0))?;
     let port = free_port(&rt)?;
-    let hub_word = format!(in alloc; "--hub=127.0.0.1:{}", hub.local_addr()?.port())?;
-    let port_word = format!(in alloc; "--port={port}")?;
-    let words = words(alloc, &[hub_word.as_str(), port_word.as_str()])?;
+    let words = words(alloc, hub.local_addr()?.port(), port)?;
     let mut answer = [0; 1_024];
     let mut door = TcpDoor::new(rt, Some(1));
     let (read, status) = thread::join(
         &rt,
-        || hub_and_client(&rt, &hub, port, &mut answer).ok(),
+        || hub_and_client(&rt, &hub, port, &mut answer).unwrap_or(0),
         || node_main(&rt, alloc, words.as_slice(), &mut door),
     );
-    assert_eq!(rt; status, 0);
-    let read = read.ok_or("an answer")?;
-    let id = b"\"sessionId\":\"00000000-0000-0007-0000-000000000001\"";
-    assert!(rt;
-        answer[..read.min(1_024)]
-            .windows(id.len())
-            .any(|part| part == id.as_slice())
-    );
+    assert!(rt; status == 0);
+    assert!(rt; has_id(&answer, read));
     Ok(())
 }

@@ -6,14 +6,14 @@ ghost use Rattle.start_trial.specs.Carried.{IsGoodTicket};
 
 use crate::carry_out;
 use caps_merge::process;
-use grid_outside::{Clock, MemClock, MemNodes, NodeReply, Reply};
+use grid_outside::{Clock, Exchange, MemClock, MemNodes, NodeReply, Reply};
 use grid_types::{
     Bytes, Cap, CapValue, Caps, FailWhy, Groups, HubConfig, Moment, NoMemory, NodeAddress, Outcome,
-    Registration, SlotGroup, Text,
+    Registration, SessionId, SlotGroup, Text,
 };
 use hub_core::{Enqueued, LocalHub, Polled, Registering, Ticket};
 use std::alloc::Global;
-use std::test::Fail;
+use std::process::Abort;
 use wd_bodies::caps_text;
 
 /// Requests on a hub of one or two nodes at `x:1` and `x:2`, each with one slot of the browser
@@ -75,7 +75,7 @@ const ENDS_1: &str = "DELETE x:1/session/a ; ";
 
 const ENDS_2: &str = "DELETE x:2/session/a ; ";
 
-const ROWS: [Row; 15] = [
+const ROWS: &[Row] = &[
     Row {
         nodes: 1,
         requests: &[OPTIONS],
@@ -186,19 +186,24 @@ const ROWS: [Row; 15] = [
     },
 ];
 
-/// A node with one slot of the browser `chrome`.
-fn chrome_node(alloc: Global, name: &str) -> Result<Registration, NoMemory>
-    ensures { IfOk result (λ r. is_well_sized r ≡ true) }
-{
-    let mut stereotype = Caps::new(alloc);
+fn chrome(alloc: Global) -> Result<Caps, NoMemory> {
+    let mut caps = Caps::new(alloc);
     let cap = Cap {
         name: Text::of(alloc, "browserName")?,
         value: CapValue::Text(Text::of(alloc, "chrome")?),
     };
-    let Ok(()) = stereotype.push(cap) else {
-        return Err(NoMemory);
-    };
+    match caps.push(cap) {
+        Ok(()) => Ok(caps),
+        Err(_) => Err(NoMemory),
+    }
+}
+
+/// A node with one slot of the browser `chrome`.
+fn chrome_node(alloc: Global, name: &str) -> Result<Registration, NoMemory>
+    ensures { IfOk result (λ r. is_well_sized r ≡ true) }
+{
     let mut groups = Groups::new(alloc);
+    let stereotype = chrome(alloc)?;
     let Ok(()) = groups.push(SlotGroup {
         stereotype,
         count: 1,
@@ -214,18 +219,21 @@ fn chrome_node(alloc: Global, name: &str) -> Result<Registration, NoMemory>
     })
 }
 
-fn joined(alloc: Global, pieces: &[&str]) -> Result<String, NoMemory> {
-    let mut text = String::new(alloc);
-    for piece in pieces {
-        text.push_str(piece)?;
+fn push(text: &mut String, piece: &str) -> Result<(), NoMemory> {
+    match text.push_str(piece) {
+        Ok(()) => Ok(()),
+        Err(_) => Err(NoMemory),
     }
-    Ok(text)
 }
 
-fn reply_of(alloc: Global, status: u16, body: &str) -> Result<Reply, NoMemory> {
-    if status == 0 {
-        return Ok(Reply::NotHttp(Bytes::of(alloc, body.as_bytes())?));
+fn push_all(text: &mut String, pieces: &[&str]) -> Result<(), NoMemory> {
+    for piece in pieces {
+        push(text, piece)?;
     }
+    Ok(())
+}
+
+fn http(alloc: Global, status: u16, body: &str) -> Result<Reply, NoMemory> {
     Ok(Reply::Http(NodeReply {
         status,
         reason: Bytes::of(alloc, b"R")?,
@@ -236,30 +244,39 @@ fn reply_of(alloc: Global, status: u16, body: &str) -> Result<Reply, NoMemory> {
     }))
 }
 
-fn nodes_of(alloc: Global, row: &Row) -> Result<MemNodes, NoMemory> {
-    let mut nodes = MemNodes::new(alloc, Vec::new(alloc));
-    for (status, body) in row.replies {
-        let body = joined(alloc, body)?;
-        let Ok(()) = nodes.push(reply_of(alloc, *status, body.as_str())?) else {
-            return Err(NoMemory);
-        };
+fn reply_of(alloc: Global, status: u16, pieces: &[&str]) -> Result<Reply, NoMemory> {
+    let mut body = String::new(alloc);
+    push_all(&mut body, pieces)?;
+    match status {
+        0 => Ok(Reply::NotHttp(Bytes::of(alloc, body.as_bytes())?)),
+        _ => http(alloc, status, body.as_str()),
     }
-    Ok(nodes)
 }
 
-fn hub_of(alloc: Global, row: &Row) -> Result<LocalHub, NoMemory> {
-    let config = HubConfig::default();
-    if !config.is_valid() {
-        return Err(NoMemory);
-    }
-    let mut hub = LocalHub::new(alloc, config)?;
-    for name in &["x:1", "x:2"][..row.nodes.min(2)] {
-        hub.room()?;
-        let Registering::Registered(_) = hub.register(chrome_node(alloc, name)?, Moment(0)) else {
+fn add_replies(alloc: Global, nodes: &mut MemNodes, row: &Row) -> Result<(), NoMemory> {
+    for (status, body) in row.replies {
+        let reply = reply_of(alloc, *status, body)?;
+        let Ok(()) = nodes.push(reply) else {
             return Err(NoMemory);
         };
     }
-    Ok(hub)
+    Ok(())
+}
+
+fn register(alloc: Global, hub: &mut LocalHub, name: &str) -> Result<(), NoMemory> {
+    let node = chrome_node(alloc, name)?;
+    hub.room()?;
+    match hub.register(node, Moment(0)) {
+        Registering::Registered(_) => Ok(()),
+        _ => Err(NoMemory),
+    }
+}
+
+fn register_all(alloc: Global, hub: &mut LocalHub, names: &[&str]) -> Result<(), NoMemory> {
+    for name in names {
+        register(alloc, hub, name)?;
+    }
+    Ok(())
 }
 
 /// One poll: Ok where the request waits on, Err with its outcome.
@@ -338,65 +355,135 @@ fn name_of(why: &FailWhy) -> &str {
     }
 }
 
-fn push_outcome(alloc: Global, told: &mut String, outcome: &Outcome) -> Result<(), NoMemory> {
-    match outcome {
-        Outcome::Created { session, caps, .. } => {
-            told.push_str("created ")?;
-            told.push_str(str_of(session.as_bytes()))?;
-            told.push_str(" ")?;
-            told.push_str(caps_text(alloc, caps)?.as_str())?;
-        }
-        Outcome::TimedOut { .. } => told.push_str("timed out")?,
-        Outcome::StartFailed(why) => told.push_str(name_of(why))?,
-        Outcome::Cleared => told.push_str("cleared")?,
-    }
-    told.push_str("; ")?;
-    Ok(())
-}
-
 fn str_of(bytes: &[u8]) -> &str {
     std::str::from_utf8(bytes).unwrap_or("")
 }
 
+fn push_created(
+    alloc: Global,
+    told: &mut String,
+    session: &SessionId,
+    caps: &Caps,
+) -> Result<(), NoMemory> {
+    let session = str_of(session.as_bytes());
+    let caps = caps_text(alloc, caps)?;
+    match format!(in alloc; "created {session} {}; ", caps.as_str()) {
+        Ok(text) => push(told, text.as_str()),
+        Err(_) => Err(NoMemory),
+    }
+}
+
+fn push_cause(told: &mut String, why: &FailWhy) -> Result<(), NoMemory> {
+    push(told, name_of(why))?;
+    push(told, "; ")
+}
+
+fn push_outcome(alloc: Global, told: &mut String, outcome: &Outcome) -> Result<(), NoMemory> {
+    match outcome {
+        Outcome::Created { session, caps, .. } => push_created(alloc, told, session, caps),
+        Outcome::TimedOut { .. } => push(told, "timed out; "),
+        Outcome::StartFailed(why) => push_cause(told, why),
+        Outcome::Cleared => push(told, "cleared; "),
+    }
+}
+
+fn push_ask(alloc: Global, told: &mut String, exchange: &Exchange) -> Result<(), NoMemory> {
+    let ask = &exchange.ask;
+    match format!(in alloc;
+        "{} {}{} {}; ",
+        str_of(ask.method.as_bytes()),
+        str_of(exchange.address.as_bytes()),
+        str_of(ask.target.as_bytes()),
+        str_of(ask.body.as_bytes())
+    ) {
+        Ok(text) => push(told, text.as_str()),
+        Err(_) => Err(NoMemory),
+    }
+}
+
 /// What the nodes were asked.
-fn push_asks(told: &mut String, nodes: &MemNodes) -> Result<(), NoMemory> {
-    for exchange in nodes.made() {
-        told.push_str(str_of(exchange.ask.method.as_bytes()))?;
-        told.push_str(" ")?;
-        told.push_str(str_of(exchange.address.as_bytes()))?;
-        told.push_str(str_of(exchange.ask.target.as_bytes()))?;
-        told.push_str(" ")?;
-        told.push_str(str_of(exchange.ask.body.as_bytes()))?;
-        told.push_str("; ")?;
+fn push_asks(alloc: Global, told: &mut String, made: &[Exchange]) -> Result<(), NoMemory> {
+    for exchange in made {
+        push_ask(alloc, told, exchange)?;
     }
     Ok(())
 }
 
-fn told_by(alloc: Global, row: &Row) -> Result<String, NoMemory> {
-    let mut told = String::new(alloc);
-    let mut hub = hub_of(alloc, row)?;
-    let mut nodes = nodes_of(alloc, row)?;
-    let mut clock = MemClock::new(Moment(0));
+fn drain(hub: &mut LocalHub, clock: &mut MemClock) -> Result<(), NoMemory> {
+    hub.room()?;
+    hub.drain(1, clock.now());
+    Ok(())
+}
+
+/// Makes the request, and tells what becomes of it.
+fn tell(
+    alloc: Global,
+    body: &str,
+    hub: &mut LocalHub,
+    nodes: &mut MemNodes,
+    clock: &mut MemClock,
+    told: &mut String,
+) -> Result<(), NoMemory> {
+    let outcome = outcome_of(alloc, body, hub, nodes, clock)?;
+    push_outcome(alloc, told, &outcome)
+}
+
+fn tell_all(
+    alloc: Global,
+    row: &Row,
+    hub: &mut LocalHub,
+    nodes: &mut MemNodes,
+    clock: &mut MemClock,
+    told: &mut String,
+) -> Result<(), NoMemory> {
     for (i, body) in row.requests.iter().enumerate() {
         if i == 1 && row.drains {
-            hub.room()?;
-            hub.drain(1, clock.now());
+            drain(hub, clock)?;
         }
-        let outcome = outcome_of(alloc, body, &mut hub, &mut nodes, &mut clock)?;
-        push_outcome(alloc, &mut told, &outcome)?;
+        tell(alloc, body, hub, nodes, clock, told)?;
     }
-    push_asks(&mut told, &nodes)?;
-    Ok(told)
+    push_asks(alloc, told, nodes.made())
+}
+
+/// Plays the row over this hub, and tells what comes of it.
+fn play(alloc: Global, row: &Row, hub: &mut LocalHub, told: &mut String) -> Result<(), NoMemory> {
+    register_all(alloc, hub, &["x:1", "x:2"][..row.nodes.min(2)])?;
+    let mut nodes = MemNodes::new(alloc, Vec::new(alloc));
+    add_replies(alloc, &mut nodes, row)?;
+    tell_all(
+        alloc,
+        row,
+        hub,
+        &mut nodes,
+        &mut MemClock::new(Moment(0)),
+        told,
+    )
+}
+
+/// Over a hub of its own.
+fn play_alone(alloc: Global, row: &Row, told: &mut String) -> Result<(), NoMemory> {
+    let mut hub = LocalHub::new(alloc, HubConfig::default())?;
+    play(alloc, row, &mut hub, told)
+}
+
+fn goes_so(alloc: Global, row: &Row) -> Result<bool, NoMemory> {
+    let mut told = String::new(alloc);
+    play_alone(alloc, row, &mut told)?;
+    let mut wanted = String::new(alloc);
+    push_all(&mut wanted, row.told)?;
+    Ok(told.as_str() == wanted.as_str())
+}
+
+fn go_so(rt: &impl Abort, alloc: Global, rows: &[Row]) -> Result<(), NoMemory> {
+    for row in rows {
+        let so = goes_so(alloc, row)?;
+        assert!(rt; so, "{}", row.told.first().copied().unwrap_or(""));
+    }
+    Ok(())
 }
 
 /// What becomes of requests by what the nodes reply, and what the nodes are asked.
 #[test]
-fn replies_decide(rt: HostRuntime) -> Result<(), Fail> {
-    let alloc = rt.alloc();
-    for row in &ROWS {
-        let told = told_by(alloc, row)?;
-        let expected = joined(alloc, row.told)?;
-        assert_eq!(rt; told.as_str(), expected.as_str());
-    }
-    Ok(())
+fn replies_decide(rt: HostRuntime) -> Result<(), NoMemory> {
+    go_so(&rt, rt.alloc(), ROWS)
 }
