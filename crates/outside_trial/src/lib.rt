@@ -2,11 +2,25 @@
 #![tactic(auto)]
 
 #[cfg(test)]
+mod clocks;
+#[cfg(test)]
+mod doors;
+#[cfg(test)]
+mod linked;
+#[cfg(test)]
+mod links;
+#[cfg(test)]
 mod looping;
 #[cfg(test)]
 mod memory;
 #[cfg(test)]
+mod nodes;
+#[cfg(test)]
+mod parts;
+#[cfg(test)]
 mod plays;
+#[cfg(test)]
+mod serving;
 #[cfg(test)]
 mod signs;
 #[cfg(test)]

@@ -1,185 +1,303 @@
 //! Requests to a node in memory with its replies.
-use grid_outside::{MemLink, MemSink, MemSource};
-use grid_types::{Bytes, NoMemory, Text};
-use http_frames::NodeRequest;
-use loop_node::{LoopNode, serve_node};
+ghost use Rattle.std.specs.Prelude.{◌≡◌, true, IfOk};
+ghost use Rattle.loop_node.specs.Sizes.{short_texts};
+
+use crate::parts::{is, request};
+use grid_types::{NoMemory, Text};
+use http_frames::{NodeReply, NodeRequest};
+use loop_node::LoopNode;
 use std::alloc::Global;
-use std::test::Fail;
+use std::process::Abort;
 
 /// Node 2 with chrome 126.0, one slot, and one start to refuse.
-fn node(alloc: Global) -> Result<LoopNode, NoMemory> {
+pub(crate) fn node(alloc: Global) -> Result<LoopNode, NoMemory>
+    ensures { IfOk result (λ n. short_texts n ≡ true) }
+{
     let browser = Text::of(alloc, "chrome")?;
     let version = Text::of(alloc, "126.0")?;
     Ok(LoopNode::new(alloc, 2, browser, version, 1, 1))
 }
 
-fn request<'a>(method: &'a str, target: &'a str, body: &'a str) -> NodeRequest<'a> {
-    NodeRequest {
-        method: method.as_bytes(),
-        target: target.as_bytes(),
-        accept: None,
-        accept_encoding: None,
-        content_type: None,
-        content_encoding: None,
-        body: body.as_bytes(),
-    }
-}
+/// A status, its phrase and a body.
+type Told = (u16, &'static str, &'static str);
 
-/// Method, target and body of requests to one node in order, and the status and the body of each reply.
-const ROWS: &[(&str, &str, &str, u16, &str)] = &[
-    (
-        "POST",
-        "/session",
-        "[]",
-        400,
-        "{\"value\":{\"error\":\"invalid argument\",\"message\":\"body is not an object\",\"stacktrace\":\"\"}}",
-    ),
-    (
-        "POST",
-        "/session",
-        "{\"a\":1,\"a\":2}",
-        400,
-        "{\"value\":{\"error\":\"invalid argument\",\"message\":\"body is not an object\",\"stacktrace\":\"\"}}",
-    ),
-    (
-        "POST",
-        "/session",
-        "{}",
-        500,
-        "{\"value\":{\"error\":\"session not created\",\"message\":\"refused by script\",\"stacktrace\":\"\"}}",
-    ),
-    (
-        "POST",
-        "/session?x",
-        "{}",
-        200,
-        "{\"value\":{\"sessionId\":\"00000000-0000-0002-0000-000000000001\",\"capabilities\":{\"browserName\":\"chrome\",\"browserVersion\":\"126.0\",\"platformName\":\"linux\"}}}",
-    ),
-    (
-        "POST",
-        "/session",
-        "{}",
-        500,
-        "{\"value\":{\"error\":\"session not created\",\"message\":\"no free slot\",\"stacktrace\":\"\"}}",
-    ),
-    (
-        "GET",
-        "/status",
-        "",
-        200,
-        "{\"value\":{\"ready\":false,\"message\":\"loop node\"}}",
-    ),
-    (
-        "GET",
-        "/session/00000000-0000-0002-0000-000000000001/url",
-        "",
-        200,
-        "{\"value\":\"about:blank\"}",
-    ),
-    (
-        "POST",
-        "/session/00000000-0000-0002-0000-000000000001/url",
-        "{\"url\":\"http://a/\"}",
-        200,
-        "{\"value\":null}",
-    ),
+/// Method, target and body of a request, and what it is answered.
+type Row = (&'static str, &'static str, &'static str, Told);
+
+const FREE: Told = (
+    200,
+    "OK",
+    "{\"value\":{\"ready\":true,\"message\":\"loop node\"}}",
+);
+
+const BUSY: Told = (
+    200,
+    "OK",
+    "{\"value\":{\"ready\":false,\"message\":\"loop node\"}}",
+);
+
+const NULL: Told = (200, "OK", "{\"value\":null}");
+
+const FIRST_URL: Told = (200, "OK", "{\"value\":\"about:blank\"}");
+
+const A: Told = (200, "OK", "{\"value\":\"http://a/\"}");
+
+const CREATED_1: Told = (
+    200,
+    "OK",
+    "{\"value\":{\"sessionId\":\"00000000-0000-0002-0000-000000000001\",\"capabilities\":{\"browserName\":\"chrome\",\"browserVersion\":\"126.0\",\"platformName\":\"linux\"}}}",
+);
+
+const CREATED_2: Told = (
+    200,
+    "OK",
+    "{\"value\":{\"sessionId\":\"00000000-0000-0002-0000-000000000002\",\"capabilities\":{\"browserName\":\"chrome\",\"browserVersion\":\"126.0\",\"platformName\":\"linux\"}}}",
+);
+
+const NO_OBJECT: Told = (
+    400,
+    "Bad Request",
+    "{\"value\":{\"error\":\"invalid argument\",\"message\":\"body is not an object\",\"stacktrace\":\"\"}}",
+);
+
+const NO_STRING: Told = (
+    400,
+    "Bad Request",
+    "{\"value\":{\"error\":\"invalid argument\",\"message\":\"url is not a string\",\"stacktrace\":\"\"}}",
+);
+
+const REFUSED: Told = (
+    500,
+    "Internal Server Error",
+    "{\"value\":{\"error\":\"session not created\",\"message\":\"refused by script\",\"stacktrace\":\"\"}}",
+);
+
+const NO_SLOT: Told = (
+    500,
+    "Internal Server Error",
+    "{\"value\":{\"error\":\"session not created\",\"message\":\"no free slot\",\"stacktrace\":\"\"}}",
+);
+
+const NO_SESSION: Told = (
+    404,
+    "Not Found",
+    "{\"value\":{\"error\":\"invalid session id\",\"message\":\"no such session\",\"stacktrace\":\"\"}}",
+);
+
+const NO_COMMAND: Told = (
+    404,
+    "Not Found",
+    "{\"value\":{\"error\":\"unknown command\",\"message\":\"no command has this path\",\"stacktrace\":\"\"}}",
+);
+
+const NO_METHOD: Told = (
+    405,
+    "Method Not Allowed",
+    "{\"value\":{\"error\":\"unknown method\",\"message\":\"this path has no such method\",\"stacktrace\":\"\"}}",
+);
+
+/// The node's first session, its url, and the same of the second.
+const ID_1: &str = "/session/00000000-0000-0002-0000-000000000001";
+
+const URL_1: &str = "/session/00000000-0000-0002-0000-000000000001/url";
+
+const ID_2: &str = "/session/00000000-0000-0002-0000-000000000002";
+
+const URL_2: &str = "/session/00000000-0000-0002-0000-000000000002/url";
+
+/// Requests to one node in order.
+const ROWS: &[Row] = &[
+    ("GET", "/status", "", FREE),
+    // What is no object starts nothing, and is not refused by script.
+    ("POST", "/session", "[]", NO_OBJECT),
+    ("POST", "/session", "", NO_OBJECT),
+    ("POST", "/session", "{\"a\":", NO_OBJECT),
+    ("POST", "/session", "{} x", NO_OBJECT),
+    ("POST", "/session", "{\"a\":1,\"a\":2}", NO_OBJECT),
+    ("POST", "/session", "{}", REFUSED),
+    ("POST", "/session?x", "{}", CREATED_1),
+    ("POST", "/session", "{}", NO_SLOT),
+    ("POST", "/session", "{\"a\":", NO_OBJECT),
+    ("GET", "/status", "", BUSY),
+    ("GET", "/status?full", "{\"a\":", BUSY),
+    // A live session.
+    ("GET", URL_1, "", FIRST_URL),
+    ("POST", URL_1, "{\"url\":\"http://a/\"}", NULL),
     (
         "GET",
         "/session/00000000-0000-0002-0000-000000000001/url?q",
         "",
-        200,
-        "{\"value\":\"http://a/\"}",
+        A,
     ),
+    // What names no url moves it nowhere.
+    ("POST", URL_1, "{\"url\":1}", NO_STRING),
+    ("POST", URL_1, "{\"URL\":\"http://b/\"}", NO_STRING),
+    ("POST", URL_1, "[\"http://b/\"]", NO_STRING),
+    ("POST", URL_1, "", NO_STRING),
+    ("POST", URL_1, "{\"url\":\"http://b/\"", NO_STRING),
     (
         "POST",
-        "/session/00000000-0000-0002-0000-000000000001/url",
-        "{\"url\":1}",
-        400,
-        "{\"value\":{\"error\":\"invalid argument\",\"message\":\"url is not a string\",\"stacktrace\":\"\"}}",
+        URL_1,
+        "{\"url\":\"http://b/\",\"url\":\"http://b/\"}",
+        NO_STRING,
     ),
+    ("GET", URL_1, "", A),
     (
         "POST",
-        "/session/00000000-0000-0002-0000-000000000002/url",
-        "none",
-        404,
-        "{\"value\":{\"error\":\"invalid session id\",\"message\":\"no such session\",\"stacktrace\":\"\"}}",
+        URL_1,
+        "{\"a\":{}, \"url\" : \"\\u0041\\\"\\n\"}",
+        NULL,
     ),
+    ("GET", URL_1, "", (200, "OK", "{\"value\":\"A\\\"\\n\"}")),
+    // A session that the node does not have: the body is not read.
+    ("GET", URL_2, "", NO_SESSION),
+    ("POST", URL_2, "{\"url\":\"http://b/\"}", NO_SESSION),
+    ("POST", URL_2, "none", NO_SESSION),
+    ("DELETE", ID_2, "", NO_SESSION),
+    ("DELETE", "/session/a", "", NO_SESSION),
+    // A method that the path does not have: the id is not looked up.
+    ("PUT", URL_1, "", NO_METHOD),
+    ("PUT", URL_2, "", NO_METHOD),
+    ("DELETE", URL_2, "", NO_METHOD),
+    ("GET", ID_1, "", NO_METHOD),
+    ("POST", ID_2, "{}", NO_METHOD),
+    ("GET", "/session", "", NO_METHOD),
+    ("DELETE", "/session", "", NO_METHOD),
+    ("POST", "/status", "{}", NO_METHOD),
+    ("get", "/status", "", NO_METHOD),
+    // A path that no command has, whatever the method.
+    ("POST", "/session/", "{}", NO_COMMAND),
+    ("GET", "/session//url", "", NO_COMMAND),
     (
-        "PUT",
-        "/session/00000000-0000-0002-0000-000000000002/url",
+        "GET",
+        "/session/00000000-0000-0002-0000-000000000001/title",
         "",
-        405,
-        "{\"value\":{\"error\":\"unknown method\",\"message\":\"this path has no such method\",\"stacktrace\":\"\"}}",
-    ),
-    (
-        "DELETE",
-        "/session/00000000-0000-0002-0000-000000000001",
-        "",
-        200,
-        "{\"value\":null}",
-    ),
-    (
-        "DELETE",
-        "/session/00000000-0000-0002-0000-000000000001",
-        "",
-        404,
-        "{\"value\":{\"error\":\"invalid session id\",\"message\":\"no such session\",\"stacktrace\":\"\"}}",
+        NO_COMMAND,
     ),
     (
         "GET",
-        "/status",
+        "/session/00000000-0000-0002-0000-000000000001/url/",
         "",
-        200,
-        "{\"value\":{\"ready\":true,\"message\":\"loop node\"}}",
+        NO_COMMAND,
     ),
-    (
-        "GET",
-        "/session",
-        "",
-        405,
-        "{\"value\":{\"error\":\"unknown method\",\"message\":\"this path has no such method\",\"stacktrace\":\"\"}}",
-    ),
-    (
-        "POST",
-        "/session/",
-        "{}",
-        404,
-        "{\"value\":{\"error\":\"unknown command\",\"message\":\"no command has this path\",\"stacktrace\":\"\"}}",
-    ),
-    (
-        "POST",
-        "/session",
-        "{}",
-        200,
-        "{\"value\":{\"sessionId\":\"00000000-0000-0002-0000-000000000002\",\"capabilities\":{\"browserName\":\"chrome\",\"browserVersion\":\"126.0\",\"platformName\":\"linux\"}}}",
-    ),
+    ("GET", "/wd/hub/status", "", NO_COMMAND),
+    ("GET", "status", "", NO_COMMAND),
+    ("PUT", "/", "", NO_COMMAND),
+    ("GET", "", "", NO_COMMAND),
+    // The session ends once, and its slot is free for another.
+    ("DELETE", ID_1, "none", NULL),
+    ("DELETE", ID_1, "", NO_SESSION),
+    ("GET", URL_1, "", NO_SESSION),
+    ("POST", URL_1, "{\"url\":\"http://b/\"}", NO_SESSION),
+    ("GET", "/status", "", FREE),
+    ("POST", "/session", "{\"capabilities\":{}}", CREATED_2),
+    ("GET", URL_2, "", FIRST_URL),
+    ("GET", URL_1, "", NO_SESSION),
 ];
 
-#[test]
-fn a_node_answers_each_kind_of_request(rt: HostRuntime) -> Result<(), Fail> {
-    let alloc = rt.alloc();
-    let mut node = node(alloc)?;
-    for (method, target, body, status, expected) in ROWS {
-        let reply = node.answer(alloc, &request(method, target, body))?;
-        assert_eq!(rt; reply.status, *status);
-        assert_eq!(rt; reply.body.as_bytes(), expected.as_bytes());
+/// Whether it is JSON that no one is to keep, with this status, phrase and body.
+fn is_told(reply: &NodeReply, told: Told) -> bool {
+    let (status, phrase, body) = told;
+    reply.status == status
+        && reply.reason.as_bytes() == phrase.as_bytes()
+        && is(&reply.content_type, "application/json; charset=utf-8")
+        && reply.content_encoding.is_none()
+        && is(&reply.cache_control, "no-cache")
+        && reply.body.as_bytes() == body.as_bytes()
+}
+
+/// Whether the request is answered so.
+fn answers(
+    alloc: Global,
+    node: &mut LoopNode,
+    request: &NodeRequest<'_>,
+    told: Told,
+) -> Result<bool, NoMemory> {
+    let reply = node.answer(alloc, request)?;
+    Ok(is_told(&reply, told))
+}
+
+fn answers_row(alloc: Global, node: &mut LoopNode, row: &Row) -> Result<bool, NoMemory> {
+    let request = request(row.0.as_bytes(), row.1.as_bytes(), row.2.as_bytes());
+    answers(alloc, node, &request, row.3)
+}
+
+fn answers_all(
+    rt: &impl Abort,
+    alloc: Global,
+    node: &mut LoopNode,
+    rows: &[Row],
+) -> Result<(), NoMemory> {
+    for row in rows {
+        let so = answers_row(alloc, node, row)?;
+        assert!(rt; so, "{}", row.1);
     }
     Ok(())
 }
 
-/// Two requests, the first with a client that waits for a word, and one that is refused.
 #[test]
-fn a_connection_is_served_to_a_refusal(rt: HostRuntime) -> Result<(), Fail> {
-    let alloc = rt.alloc();
-    let mut node = node(alloc)?;
-    let bytes =
-        b"POST /session HTTP/1.1\r\nExpect: 100-continue\r\nContent-Length: 2\r\n\r\n{}GET /status HTTP/1.1\r\n\r\n\0";
-    let source = MemSource::new(Bytes::of(alloc, bytes)?, 7, Vec::new(alloc));
-    let mut link = MemLink::new(source, MemSink::new(alloc, 9, Vec::new(alloc)));
-    assert_eq!(rt; serve_node(alloc, &mut node, &mut link).ok(), Some(2));
-    assert_eq!(rt;
-        link.taken(),
-        b"HTTP/1.1 100 Continue\r\n\r\nHTTP/1.1 500 Internal Server Error\r\nContent-Type: application/json; charset=utf-8\r\nCache-Control: no-cache\r\nContent-Length: 87\r\n\r\n{\"value\":{\"error\":\"session not created\",\"message\":\"refused by script\",\"stacktrace\":\"\"}}HTTP/1.1 200 OK\r\nContent-Type: application/json; charset=utf-8\r\nCache-Control: no-cache\r\nContent-Length: 46\r\n\r\n{\"value\":{\"ready\":true,\"message\":\"loop node\"}}HTTP/1.1 400 Bad Request\r\nContent-Type: application/json; charset=utf-8\r\nCache-Control: no-cache\r\nContent-Length: 84\r\nConnection: close\r\n\r\n{\"value\":{\"error\":\"invalid argument\",\"message\":\"bad request: head\",\"stacktrace\":\"\"}}".as_slice()
-    );
+fn a_node_answers_each_kind_of_request(rt: HostRuntime) -> Result<(), NoMemory> {
+    let mut node = node(rt.alloc())?;
+    answers_all(&rt, rt.alloc(), &mut node, ROWS)
+}
+
+/// A path that is no text is none that a command has.
+#[test]
+fn a_target_may_be_any_bytes(rt: HostRuntime) -> Result<(), NoMemory> {
+    let mut node = node(rt.alloc())?;
+    let request = request(b"GET", b"/session/\xff/url", b"");
+    let so = answers(rt.alloc(), &mut node, &request, NO_COMMAND)?;
+    assert!(rt; so);
+    Ok(())
+}
+
+fn put(text: &mut Vec<u8>, piece: &[u8]) -> Result<(), NoMemory> {
+    match text.extend_from_slice(piece) {
+        Ok(()) => Ok(()),
+        Err(_) => Err(NoMemory),
+    }
+}
+
+fn put_member(alloc: Global, text: &mut Vec<u8>, number: u32) -> Result<(), NoMemory> {
+    match format!(in alloc; ",\"{number}\":0") {
+        Ok(member) => put(text, member.as_bytes()),
+        Err(_) => Err(NoMemory),
+    }
+}
+
+/// An object with so many members and one more.
+fn object_of(alloc: Global, more: u32) -> Result<Vec<u8>, NoMemory> {
+    let mut text = Vec::new(alloc);
+    put(&mut text, b"{\"a\":0")?;
+    for number in 0..more {
+        put_member(alloc, &mut text, number)?;
+    }
+    put(&mut text, b"}")?;
+    Ok(text)
+}
+
+fn starts_with(
+    alloc: Global,
+    node: &mut LoopNode,
+    more: u32,
+    told: Told,
+) -> Result<bool, NoMemory> {
+    let body = object_of(alloc, more)?;
+    answers(
+        alloc,
+        node,
+        &request(b"POST", b"/session", body.as_slice()),
+        told,
+    )
+}
+
+/// 1,024 members are an object, and 1,025 are none.
+#[test]
+fn a_body_may_have_so_many_members(rt: HostRuntime) -> Result<(), NoMemory> {
+    let mut node = node(rt.alloc())?;
+    let none = starts_with(rt.alloc(), &mut node, 1_024, NO_OBJECT)?;
+    assert!(rt; none);
+    let object = starts_with(rt.alloc(), &mut node, 1_023, REFUSED)?;
+    assert!(rt; object);
     Ok(())
 }

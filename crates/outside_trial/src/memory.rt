@@ -1,99 +1,99 @@
-//! Sources, sinks, doors and nodes in memory.
+//! Sources and sinks in memory, and standard output.
+use crate::parts::numbers;
 use grid_outside::{
-    Clock, Door, ExchangeFault, Failed, Link, MemDoor, MemLink, MemNodes, MemSink, MemSource,
-    NodeLink, Reply, Sink, Source, StandardOutput,
+    Failed, MemSink, MemSource, Sink, Source, StandardOutput, SureSink, SureSource,
 };
-use grid_types::{Bytes, Moment, NodeAddress};
-use http_frames::NodeRequest;
-use std::test::Fail;
+use grid_types::{Bytes, NoMemory};
+use std::alloc::Global;
+use std::process::Abort;
 
-/// Five bytes in pieces of at most two; the second and the fourth read fail.
-#[test]
-fn a_source_gives_its_bytes_between_failures(rt: HostRuntime) -> Result<(), Fail> {
-    let alloc = rt.alloc();
-    let fails = [1, 3].to_vec(alloc)?;
-    let mut source = MemSource::new(Bytes::of(alloc, b"abcde")?, 2, fails);
+/// What a read into eight bytes gives: a piece, which is empty at the end, or None where it fails.
+type Given = Option<&'static str>;
+
+/// Whether the next read gives this.
+fn gives<S: Source>(source: &mut S, wanted: Given) -> bool {
     let mut piece = [0; 8];
-    let expected: [Result<&[u8], Failed>; 7] = [
-        Ok(b"ab"),
-        Err(Failed),
-        Ok(b"cd"),
-        Err(Failed),
-        Ok(b"e"),
-        Ok(b""),
-        Ok(b""),
-    ];
-    for answer in &expected {
-        match source.read(&mut piece) {
-            Ok(count) => assert_eq!(rt; Ok(&piece[..count]), *answer),
-            Err(failed) => assert_eq!(rt; Err(failed), *answer),
-        }
+    match source.read(&mut piece) {
+        Ok(count) => wanted.is_some_and(|text| &piece[..count] == text.as_bytes()),
+        Err(Failed) => wanted.is_none(),
     }
-    Ok(())
 }
 
-/// At most three bytes of each piece; the second write fails.
-#[test]
-fn a_sink_keeps_what_it_takes(rt: HostRuntime) -> Result<(), Fail> {
-    let alloc = rt.alloc();
-    let mut sink = MemSink::new(alloc, 3, [1].to_vec(alloc)?);
-    assert_eq!(rt; sink.write(b"abcde"), Ok(3));
-    assert_eq!(rt; sink.write(b"de"), Err(Failed));
-    assert_eq!(rt; sink.write(b"de"), Ok(2));
-    assert_eq!(rt; sink.write(b""), Ok(0));
-    assert_eq!(rt; sink.taken(), b"abcde".as_slice());
-    Ok(())
-}
-
-#[test]
-fn standard_output_takes_bytes(rt: HostRuntime) -> Result<(), Fail> {
-    let mut output = StandardOutput::new(&rt);
-    assert_eq!(rt; output.write(b"\n"), Ok(1));
-    Ok(())
-}
-
-/// The second of the binds and accepts fails; then the link is handed out, and the door is closed.
-#[test]
-fn a_door_hands_out_its_links(rt: HostRuntime) -> Result<(), Fail> {
-    let alloc = rt.alloc();
-    let mut door = MemDoor::new(alloc, Moment(5), [1].to_vec(alloc)?);
-    let source = MemSource::new(Bytes::of(alloc, b"ab")?, 8, Vec::new(alloc));
-    let sink = MemSink::new(alloc, 8, Vec::new(alloc));
-    assert!(rt; door.push(MemLink::new(source, sink)).is_ok());
-    assert_eq!(rt; door.bind(80), Ok(()));
-    assert!(rt; door.accept().is_err());
-    let mut link = door.accept().ok().ok_or("accepted")?.ok_or("a link")?;
-    let mut piece = [0; 8];
-    assert_eq!(rt; link.read(&mut piece), Ok(2));
-    assert_eq!(rt; link.write(b"cd"), Ok(2));
-    assert_eq!(rt; link.taken(), b"cd".as_slice());
-    assert!(rt; door.accept().ok().ok_or("closed")?.is_none());
-    assert_eq!(rt; door.clock().now(), Moment(5));
-    Ok(())
-}
-
-/// One reply; the second exchange fails, and at the third no reply is left.
-#[test]
-fn nodes_reply_in_order(rt: HostRuntime) -> Result<(), Fail> {
-    let alloc = rt.alloc();
-    let address = NodeAddress::from_bytes(b"a:1").ok_or("no address")?;
-    let request = NodeRequest {
-        method: b"GET",
-        target: b"/status",
-        accept: Some(b"*/*"),
-        accept_encoding: None,
-        content_type: None,
-        content_encoding: None,
-        body: b"",
-    };
-    let mut nodes = MemNodes::new(alloc, [1].to_vec(alloc)?);
-    assert!(rt; nodes.push(Reply::NotHttp(Bytes::of(alloc, b"x")?)).is_ok());
-    let came = nodes.exchange(alloc, &address, &request);
-    assert!(rt; matches!(&came, Ok(Reply::NotHttp(bytes)) if bytes.as_bytes() == b"x".as_slice()));
-    for _ in 0..2 {
-        let came = nodes.exchange(alloc, &address, &request);
-        assert!(rt; matches!(came, Err(ExchangeFault::Unreachable)));
+fn gives_all<S: Source>(rt: &impl Abort, source: &mut S, rows: &[Given]) {
+    for wanted in rows {
+        let so = gives(source, *wanted);
+        assert!(rt; so);
     }
-    assert_eq!(rt; nodes.made().len(), 3);
+}
+
+/// Five bytes by twos, of which the second, the fourth and the seventh read fail.
+fn source(alloc: Global) -> Result<MemSource, NoMemory> {
+    let bytes = Bytes::of(alloc, b"abcde")?;
+    Ok(MemSource::new(bytes, 2, numbers(alloc, &[1, 3, 6])?))
+}
+
+/// A read that fails takes no byte, and the end comes again and again.
+const READS: &[Given] = &[
+    Some("ab"),
+    None,
+    Some("cd"),
+    None,
+    Some("e"),
+    Some(""),
+    None,
+    Some(""),
+    Some(""),
+];
+
+#[test]
+fn a_source_gives_its_bytes_between_failures(rt: HostRuntime) -> Result<(), NoMemory> {
+    let mut source = source(rt.alloc())?;
+    gives_all(&rt, &mut source, READS);
     Ok(())
+}
+
+const SURE_READS: &[Given] = &[Some("abcdefgh"), Some("ij"), Some(""), Some("")];
+
+#[test]
+fn a_sure_source_gives_as_much_as_there_is_room_for(rt: HostRuntime) -> Result<(), NoMemory> {
+    let mut source = SureSource::new(Bytes::of(rt.alloc(), b"abcdefghij")?);
+    gives_all(&rt, &mut source, SURE_READS);
+    Ok(())
+}
+
+/// A piece and how many bytes of it a write takes, or None where it fails.
+type Taken = (&'static str, Option<usize>);
+
+fn takes_all<S: Sink>(rt: &impl Abort, sink: &mut S, rows: &[Taken]) {
+    for (piece, wanted) in rows {
+        let so = sink.write(piece.as_bytes()).ok() == *wanted;
+        assert!(rt; so, "{piece}");
+    }
+}
+
+/// At most three bytes of each piece; the second and the fifth write fail.
+const WRITES: &[Taken] = &[
+    ("abcde", Some(3)),
+    ("de", None),
+    ("de", Some(2)),
+    ("", Some(0)),
+    ("f", None),
+];
+
+#[test]
+fn a_sink_keeps_what_it_takes(rt: HostRuntime) -> Result<(), NoMemory> {
+    let mut sink = MemSink::new(rt.alloc(), 3, numbers(rt.alloc(), &[1, 4])?);
+    takes_all(&rt, &mut sink, WRITES);
+    assert!(rt; sink.taken() == b"abcde".as_slice());
+    Ok(())
+}
+
+const SURE_WRITES: &[Taken] = &[("abcde", Some(5)), ("", Some(0))];
+
+const LINE: &[Taken] = &[("\n", Some(1)), ("", Some(0))];
+
+#[test]
+fn what_keeps_no_bytes_takes_whole_pieces(rt: HostRuntime) {
+    takes_all(&rt, &mut SureSink, SURE_WRITES);
+    takes_all(&rt, &mut StandardOutput::new(&rt), LINE);
 }

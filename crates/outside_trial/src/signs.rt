@@ -1,73 +1,145 @@
 //! A registration and beats to a hub in memory.
-use grid_outside::{MemNodes, NodeReply, Reply};
-use grid_types::{Bytes, Cap, CapValue, Caps, Groups, NodeAddress, Registration, SlotGroup, Text};
+use crate::parts::reply;
+use grid_outside::{Exchange, MemNodes};
+use grid_types::{
+    Bytes, Cap, CapValue, Caps, Groups, NoMemory, NodeAddress, Registration, SlotGroup, Text,
+};
 use node_signs::{Beat, number_told, register, registration_body, send_beat};
 use std::alloc::Global;
-use std::test::Fail;
+use std::process::Abort;
 
-fn text(alloc: Global, content: &str) -> Result<Text, Fail> {
-    Ok(Text::of(alloc, content).map_err(|_| "no memory")?)
+fn chrome(alloc: Global) -> Result<Caps, NoMemory> {
+    let mut caps = Caps::new(alloc);
+    let cap = Cap {
+        name: Text::of(alloc, "browserName")?,
+        value: CapValue::Text(Text::of(alloc, "chrome")?),
+    };
+    match caps.push(cap) {
+        Ok(()) => Ok(caps),
+        Err(_) => Err(NoMemory),
+    }
 }
 
-fn chrome(alloc: Global) -> Result<Registration, Fail> {
-    let mut stereotype = Caps::new(alloc);
-    let name = Cap {
-        name: text(alloc, "browserName")?,
-        value: CapValue::Text(text(alloc, "chrome")?),
-    };
-    stereotype.push(name).map_err(|_| "no memory")?;
+fn two_slots(alloc: Global) -> Result<Groups, NoMemory> {
     let mut groups = Groups::new(alloc);
-    let group = SlotGroup {
+    let stereotype = chrome(alloc)?;
+    match groups.push(SlotGroup {
         stereotype,
         count: 2,
-    };
-    groups.push(group).map_err(|_| "no memory")?;
+    }) {
+        Ok(()) => Ok(groups),
+        Err(_) => Err(NoMemory),
+    }
+}
+
+fn address(text: &[u8]) -> Result<NodeAddress, NoMemory> {
+    NodeAddress::from_bytes(text).ok_or(NoMemory)
+}
+
+fn registration(alloc: Global) -> Result<Registration, NoMemory> {
     Ok(Registration {
-        name: text(alloc, "n2")?,
-        address: NodeAddress::from_bytes(b"127.0.0.1:9515").ok_or("no address")?,
+        name: Text::of(alloc, "n2")?,
+        address: address(b"127.0.0.1:9515")?,
         max_sessions: 2,
-        groups,
+        groups: two_slots(alloc)?,
         drain_after: Some(7),
     })
 }
 
-fn answer(alloc: Global, nodes: &mut MemNodes, status: u16, body: &str) -> Result<(), Fail> {
-    let reply = Reply::Http(NodeReply {
-        status,
-        reason: Bytes::of(alloc, b"").map_err(|_| "no memory")?,
-        content_type: None,
-        content_encoding: None,
-        cache_control: None,
-        body: Bytes::of(alloc, body.as_bytes()).map_err(|_| "no memory")?,
-    });
-    nodes.push(reply).map_err(|_| "no memory")?;
-    Ok(())
+const BODY: &str =
+    "{\"name\":\"n2\",\"address\":\"127.0.0.1:9515\",\"maxSessions\":2,\"drainAfter\":7,\"slots\":[{\"count\":2,\"stereotype\":{\"browserName\":\"chrome\"}}]}";
+
+fn body(alloc: Global) -> Result<Bytes, NoMemory> {
+    let registration = registration(alloc)?;
+    registration_body(alloc, &registration)
 }
 
 #[test]
-fn a_node_registers_and_beats(rt: HostRuntime) -> Result<(), Fail> {
-    let alloc = rt.alloc();
-    let body = registration_body(alloc, &chrome(alloc)?).map_err(|_| "no memory")?;
-    let wanted =
-        "{\"name\":\"n2\",\"address\":\"127.0.0.1:9515\",\"maxSessions\":2,\"drainAfter\":7,\"slots\":[{\"count\":2,\"stereotype\":{\"browserName\":\"chrome\"}}]}";
-    assert_eq!(rt; body.as_bytes(), wanted.as_bytes());
-    assert!(rt; number_told(b"{\"value\":{\"node\":07}}").is_none());
-    let hub = NodeAddress::from_bytes(b"127.0.0.1:4444").ok_or("no address")?;
-    let mut nodes = MemNodes::new(alloc, Vec::new(alloc));
-    answer(alloc, &mut nodes, 200, "{\"value\":{\"node\":7}}")?;
-    answer(alloc, &mut nodes, 200, "{\"value\":null}")?;
-    answer(alloc, &mut nodes, 400, "{\"value\":null}")?;
-    let number = register(alloc, &mut nodes, &hub, body.as_bytes()).map_err(|_| "no memory")?;
-    assert_eq!(rt; number, Some(7));
-    for wanted in [Beat::Taken, Beat::Refused, Beat::Unanswered] {
-        let came = send_beat(alloc, &mut nodes, &hub, 7).map_err(|_| "no memory")?;
-        assert!(rt; came == wanted);
-    }
-    let made = nodes.made();
-    assert_eq!(rt; made.len(), 4);
-    assert_eq!(rt;
-        made[1].ask.target.as_bytes(),
-        b"/se/grid/distributor/node/7/beat".as_slice()
-    );
+fn a_registration_is_written(rt: HostRuntime) -> Result<(), NoMemory> {
+    let body = body(rt.alloc())?;
+    assert!(rt; body.as_bytes() == BODY.as_bytes());
     Ok(())
+}
+
+/// What the hub replies: to a registration, and to three beats.
+const REPLIES: &[(u16, &str)] = &[
+    (200, "{\"value\":{\"node\":7}}"),
+    (200, "{\"value\":null}"),
+    (400, "{\"value\":null}"),
+];
+
+const BEATS: &[Beat] = &[Beat::Taken, Beat::Refused, Beat::Unanswered];
+
+fn fill(alloc: Global, nodes: &mut MemNodes) -> Result<(), NoMemory> {
+    for (status, body) in REPLIES {
+        let reply = reply(alloc, *status, body)?;
+        let Ok(()) = nodes.push(reply) else {
+            return Err(NoMemory);
+        };
+    }
+    Ok(())
+}
+
+fn beats(
+    rt: &impl Abort,
+    alloc: Global,
+    nodes: &mut MemNodes,
+    hub: &NodeAddress,
+) -> Result<(), NoMemory> {
+    for wanted in BEATS {
+        let came = send_beat(alloc, nodes, hub, 7)?;
+        assert!(rt; came == *wanted);
+    }
+    Ok(())
+}
+
+fn registers_and_beats(
+    rt: &impl Abort,
+    alloc: Global,
+    nodes: &mut MemNodes,
+    hub: &NodeAddress,
+) -> Result<(), NoMemory> {
+    fill(alloc, nodes)?;
+    let number = register(alloc, nodes, hub, BODY.as_bytes())?;
+    assert!(rt; number == Some(7));
+    beats(rt, alloc, nodes, hub)
+}
+
+fn asks(exchange: &Exchange, target: &str, body: &str) -> bool {
+    exchange.ask.target.as_bytes() == target.as_bytes()
+        && exchange.ask.body.as_bytes() == body.as_bytes()
+}
+
+fn asked_so(made: &[Exchange]) -> bool {
+    match made {
+        [register, beat, _, _] => {
+            asks(register, "/se/grid/distributor/node", BODY)
+                && asks(beat, "/se/grid/distributor/node/7/beat", "")
+        }
+        _ => false,
+    }
+}
+
+#[test]
+fn a_node_registers_and_beats(rt: HostRuntime) -> Result<(), NoMemory> {
+    let hub = address(b"127.0.0.1:4444")?;
+    let mut nodes = MemNodes::new(rt.alloc(), Vec::new(rt.alloc()));
+    registers_and_beats(&rt, rt.alloc(), &mut nodes, &hub)?;
+    assert!(rt; asked_so(nodes.made()));
+    Ok(())
+}
+
+/// Bodies of a reply, and the number that they tell.
+const TOLD: &[(&[u8], Option<u32>)] = &[
+    (b"{\"value\":{\"node\":7}}", Some(7)),
+    (b"{\"value\":{\"node\":07}}", None),
+    (b"{\"value\":{\"node\":}}", None),
+    (b"{\"value\":{\"node\":7}} ", None),
+];
+
+#[test]
+fn a_number_is_told_in_one_form(rt: HostRuntime) {
+    for (body, wanted) in TOLD {
+        assert!(rt; number_told(body) == *wanted);
+    }
 }

@@ -1,94 +1,228 @@
-//! The outside over TCP and the machine's clock, once each.
+//! The outside over TCP.
+use crate::doors::closed;
+use crate::links::{reads, writes};
+use crate::parts::{is_unreachable, request};
 use grid_outside::{Clock, Door, ExchangeFault, Link, NodeLink, Reply};
-use grid_sockets::{MachineClock, TcpDoor, TcpNodes};
-use grid_types::{Moment, NodeAddress};
-use http_frames::NodeRequest;
+use grid_sockets::{TcpDoor, TcpLink, TcpNodes};
+use grid_types::NodeAddress;
 use std::alloc::Global;
 use std::io::{Read, Write};
 use std::net::{Ipv4Addr, Net, TcpListener, TcpStream};
-use std::test::Fail;
+use std::process::Abort;
+use std::thread;
 use std::thread::Threads;
-use std::{io, thread};
 
-/// A door of one link: what a client writes is read and the other way round, and then it is closed.
-#[test]
-fn a_door_closes_after_its_links(rt: HostRuntime) -> Result<(), Fail> {
-    let mut door = TcpDoor::new(rt, Some(1));
-    assert!(rt; door.accept().is_err());
-    let port = (24_711..24_811_u16)
-        .find(|port| door.bind(*port).is_ok())
-        .ok_or("a port")?;
-    let mut client = TcpStream::connect(&rt, (Ipv4Addr::LOCALHOST, port))?;
-    let mut link = door.accept().ok().ok_or("accepted")?.ok_or("a link")?;
-    client.write_all(b"abc")?;
+/// The first of a hundred ports that is free.
+fn bound<D: Door>(door: &mut D) -> Option<u16> {
+    for port in 24_711..24_811_u16 {
+        if door.bind(port).is_ok() {
+            return Some(port);
+        }
+    }
+    None
+}
+
+/// Whether the stream's other end wrote this.
+fn is_sent(stream: &mut TcpStream, text: &str) -> bool {
     let mut piece = [0; 8];
-    assert_eq!(rt; link.read(&mut piece).ok(), Some(3));
-    assert_eq!(rt; link.write(b"de").ok(), Some(2));
-    assert_eq!(rt; client.read(&mut piece)?, 2);
+    match stream.read(&mut piece) {
+        Ok(count) => count <= 8 && &piece[..count] == text.as_bytes(),
+        Err(_) => false,
+    }
+}
+
+/// Whether what the one end writes is read at the other.
+fn goes_both_ways<L: Link>(link: &mut L, client: &mut TcpStream) -> bool {
+    client.write_all(b"abc").is_ok()
+        && reads(link, "abc")
+        && writes(link, "de", 2)
+        && is_sent(client, "de")
+}
+
+/// Whether the link goes both ways, and ends where the client does.
+fn goes_to_its_end<L: Link>(link: &mut L, mut client: TcpStream) -> bool {
+    let goes = goes_both_ways(link, &mut client);
     drop(client);
-    assert_eq!(rt; link.read(&mut piece).ok(), Some(0));
-    assert!(rt; door.accept().ok().ok_or("closed")?.is_none());
-    Ok(())
+    goes && reads(link, "")
 }
 
-/// Answers the first request with these bytes, and closes.
-fn answer_once(listener: &TcpListener, reply: &[u8]) -> io::Result<()> {
-    let (mut stream, _) = listener.accept()?;
+/// Whether it hands the client's link out.
+fn hands_out<D: Door>(door: &mut D, client: TcpStream) -> bool {
+    match door.accept() {
+        Ok(Some(mut link)) => goes_to_its_end(&mut link, client),
+        _ => false,
+    }
+}
+
+fn connected<R: Net<Stream = TcpStream>>(rt: &R, port: u16) -> Option<TcpStream> {
+    TcpStream::connect(rt, (Ipv4Addr::LOCALHOST, port)).ok()
+}
+
+/// Whether it opens, hands one link out, and is closed then.
+fn opens_once<R: Net<Stream = TcpStream>, D: Door>(rt: &R, door: &mut D) -> Option<bool> {
+    let unbound = door.accept().is_err();
+    let port = bound(door)?;
+    let client = connected(rt, port)?;
+    Some(unbound && hands_out(door, client) && closed(door))
+}
+
+#[test]
+fn a_door_closes_after_its_links(rt: HostRuntime) {
+    let mut door = TcpDoor::new(rt, Some(1));
+    let so = opens_once(&rt, &mut door);
+    assert!(rt; so == Some(true));
+}
+
+/// A listener at a port that is free.
+fn listener<R: Net<Listener = TcpListener, Stream = TcpStream>>(
+    rt: &R,
+) -> Option<(TcpListener, u16)> {
+    let listener = TcpListener::bind(rt, (Ipv4Addr::LOCALHOST, 0)).ok()?;
+    let port = listener.local_addr().ok()?.port();
+    Some((listener, port))
+}
+
+fn links_to<R: Net<Listener = TcpListener, Stream = TcpStream>>(rt: &R) -> Option<bool> {
+    let (listener, port) = listener(rt)?;
+    let client = connected(rt, port)?;
+    let (stream, _) = listener.accept().ok()?;
+    Some(goes_to_its_end(&mut TcpLink::new(stream), client))
+}
+
+#[test]
+fn a_stream_is_a_link(rt: HostRuntime) {
+    let so = links_to(&rt);
+    assert!(rt; so == Some(true));
+}
+
+/// Reads a request, and answers with these bytes; whether the request begins as the one that was asked for.
+fn answers_once(listener: &TcpListener, reply: &[u8]) -> bool {
+    let Ok((mut stream, _)) = listener.accept() else {
+        return false;
+    };
     let mut piece = [0; 512];
-    let _ = stream.read(&mut piece)?;
-    stream.write_all(reply)
+    match stream.read(&mut piece) {
+        Ok(count) => {
+            count <= 512
+                && piece[..count].starts_with(b"GET /status HTTP/1.1\r\nHost: ")
+                && stream.write_all(reply).is_ok()
+        }
+        Err(_) => false,
+    }
 }
 
-/// What comes of a request to a node that replies so.
+/// What a node replies, and what that is.
+type Row = (&'static str, &'static str, Told);
+
+#[derive(Clone, Copy)]
+enum Told {
+    /// A reply with this body.
+    Http(&'static str),
+    /// These bytes.
+    NotHttp(&'static str),
+}
+
+/// A reply, by a name too, and what is none, also since it is cut off.
+const ROWS: &[Row] = &[
+    (
+        "localhost",
+        "HTTP/1.1 200 OK\r\nContent-Length: 2\r\n\r\nhi",
+        Told::Http("hi"),
+    ),
+    (
+        "127.0.0.1",
+        "SSH-2.0-OpenSSH_9.6\r\n",
+        Told::NotHttp("SSH-2.0-OpenSSH_9.6\r\n"),
+    ),
+    (
+        "127.0.0.1",
+        "HTTP/1.1 200 OK\r\nContent-Length: 3\r\n\r\nhi",
+        Told::NotHttp("HTTP/1.1 200 OK\r\nContent-Length: 3\r\n\r\nhi"),
+    ),
+];
+
+fn is_told(reply: &Reply, told: Told) -> bool {
+    match (reply, told) {
+        (Reply::Http(reply), Told::Http(body)) => reply.body.as_bytes() == body.as_bytes(),
+        (Reply::NotHttp(bytes), Told::NotHttp(text)) => bytes.as_bytes() == text.as_bytes(),
+        _ => false,
+    }
+}
+
+fn came_so(came: &Result<Reply, ExchangeFault>, told: Told) -> bool {
+    match came {
+        Ok(reply) => is_told(reply, told),
+        Err(_) => false,
+    }
+}
+
+fn address_of(alloc: Global, host: &str, port: u16) -> Option<NodeAddress> {
+    let address = format!(in alloc; "{host}:{port}").ok()?;
+    NodeAddress::from_bytes(address.as_bytes())
+}
+
+/// What comes of a request to a node at the address that replies so, where it is asked as it is to be.
 fn asked<R: Threads + Net<Listener = TcpListener, Stream = TcpStream> + Copy + Drop>(
     rt: R,
     alloc: Global,
-    host: &str,
+    listener: &TcpListener,
+    address: &NodeAddress,
     reply: &[u8],
-) -> Result<Result<Reply, ExchangeFault>, Fail> {
-    let listener = TcpListener::bind(&rt, (Ipv4Addr::LOCALHOST, 0))?;
-    let port = listener.local_addr()?.port();
-    let address = format!(in alloc; "{host}:{port}")?;
-    let address = NodeAddress::from_bytes(address.as_bytes()).ok_or("an address")?;
-    let request = NodeRequest {
-        method: b"GET",
-        target: b"/status",
-        accept: None,
-        accept_encoding: None,
-        content_type: None,
-        content_encoding: None,
-        body: b"",
-    };
+) -> (bool, Result<Reply, ExchangeFault>) {
     let mut nodes = TcpNodes::new(rt);
-    let (_, came) = thread::join(
+    thread::join(
         &rt,
-        || answer_once(&listener, reply).is_ok(),
-        || nodes.exchange(alloc, &address, &request),
-    );
-    Ok(came)
+        || answers_once(listener, reply),
+        || nodes.exchange(alloc, address, &request(b"GET", b"/status", b"")),
+    )
 }
 
-/// A reply, by a name too, what is none, and a node that is not there.
-#[test]
-fn a_node_is_asked_over_its_own_connection(rt: HostRuntime) -> Result<(), Fail> {
-    let whole = b"HTTP/1.1 200 OK\r\nContent-Length: 2\r\n\r\nhi";
-    match asked(rt, rt.alloc(), "localhost", whole.as_slice())? {
-        Ok(Reply::Http(reply)) => assert_eq!(rt; reply.body.as_bytes(), b"hi".as_slice()),
-        _ => return Err("no reply")?,
-    }
-    match asked(rt, rt.alloc(), "127.0.0.1", b"SSH-2.0-OpenSSH_9.6\r\n")? {
-        Ok(Reply::NotHttp(bytes)) => assert_eq!(rt; bytes.as_bytes().len(), 21),
-        _ => return Err("no other protocol")?,
-    }
-    Ok(())
+fn goes_so<R: Threads + Net<Listener = TcpListener, Stream = TcpStream> + Copy + Drop>(
+    rt: R,
+    alloc: Global,
+    row: &Row,
+) -> Option<bool> {
+    let (host, reply, told) = *row;
+    let (listener, port) = listener(&rt)?;
+    let address = address_of(alloc, host, port)?;
+    let (is_asked, came) = asked(rt, alloc, &listener, &address, reply.as_bytes());
+    Some(is_asked && came_so(&came, told))
 }
 
 #[test]
-fn the_clock_of_the_machine_goes_on(rt: HostRuntime) -> Result<(), Fail> {
-    let mut clock = MachineClock::new(rt);
-    let Moment(start) = clock.now();
-    let Moment(later) = clock.pause(20);
-    assert!(rt; start + 20 <= later);
-    assert!(rt; later <= clock.now().0);
-    Ok(())
+fn a_node_is_asked_over_its_own_connection(rt: HostRuntime) {
+    for row in ROWS {
+        let so = goes_so(rt, rt.alloc(), row);
+        assert!(rt; so == Some(true));
+    }
+}
+
+/// An address at which none listens any more.
+fn empty_address<R: Net<Listener = TcpListener, Stream = TcpStream>>(
+    rt: &R,
+    alloc: Global,
+) -> Option<NodeAddress> {
+    let (listener, port) = listener(rt)?;
+    drop(listener);
+    address_of(alloc, "127.0.0.1", port)
+}
+
+/// Whether none is reached at the address.
+fn finds_none<R: Net + Copy + Drop>(rt: R, alloc: Global, address: &NodeAddress) -> bool {
+    let came = TcpNodes::new(rt).exchange(alloc, address, &request(b"GET", b"/status", b""));
+    is_unreachable(&came)
+}
+
+fn reaches_none<R: Net<Listener = TcpListener, Stream = TcpStream> + Copy + Drop>(
+    rt: R,
+    alloc: Global,
+) -> Option<bool> {
+    let address = empty_address(&rt, alloc)?;
+    Some(finds_none(rt, alloc, &address))
+}
+
+#[test]
+fn a_node_that_is_not_there_is_unreachable(rt: HostRuntime) {
+    let so = reaches_none(rt, rt.alloc());
+    assert!(rt; so == Some(true));
 }

@@ -1,0 +1,77 @@
+//! A door in memory.
+use crate::links::{reads, writes};
+use crate::parts::{is_unreachable, link, numbers, request};
+use grid_outside::{Clock, Door, MemDoor, MemLink, NodeLink};
+use grid_types::{Moment, NoMemory, NodeAddress};
+use std::alloc::Global;
+
+fn fails<D: Door>(door: &mut D) -> bool {
+    door.accept().is_err()
+}
+
+/// Whether it is closed.
+pub(crate) fn closed<D: Door>(door: &mut D) -> bool {
+    match door.accept() {
+        Ok(link) => link.is_none(),
+        Err(_) => false,
+    }
+}
+
+fn goes(link: &mut MemLink) -> bool {
+    reads(link, "abc") && writes(link, "cd", 2) && link.taken() == b"cd".as_slice()
+}
+
+/// Whether the link goes both ways.
+fn hands_out(door: &mut MemDoor) -> bool {
+    match door.accept() {
+        Ok(Some(mut link)) => goes(&mut link),
+        _ => false,
+    }
+}
+
+/// A door at moment 5 with one link, of whose binds and accepts these fail.
+fn door(alloc: Global, fails: &[u64]) -> Result<MemDoor, NoMemory> {
+    let mut door = MemDoor::new(alloc, Moment(5), numbers(alloc, fails)?);
+    match door.push(link(alloc, b"abc", &[], &[])?) {
+        Ok(()) => Ok(door),
+        Err(_) => Err(NoMemory),
+    }
+}
+
+fn opens_and_closes(door: &mut MemDoor) -> bool {
+    door.bind(80).is_err()
+        && door.bind(80).is_ok()
+        && fails(door)
+        && hands_out(door)
+        && closed(door)
+        && fails(door)
+        && closed(door)
+}
+
+/// The first bind fails, and the first and the fourth accept.
+#[test]
+fn a_door_hands_out_its_links(rt: HostRuntime) -> Result<(), NoMemory> {
+    let mut door = door(rt.alloc(), &[0, 2, 5])?;
+    let so = opens_and_closes(&mut door);
+    assert!(rt; so);
+    Ok(())
+}
+
+/// Whether none is reached at the address.
+fn reaches_none(alloc: Global, door: &mut MemDoor, address: &NodeAddress) -> bool {
+    let came = door
+        .nodes()
+        .exchange(alloc, address, &request(b"GET", b"/status", b""));
+    is_unreachable(&came)
+}
+
+#[test]
+fn a_door_tells_its_moment_and_reaches_no_node(rt: HostRuntime) -> Result<(), NoMemory> {
+    let mut door = door(rt.alloc(), &[])?;
+    let address = NodeAddress::from_bytes(b"a:1").ok_or(NoMemory)?;
+    let none = reaches_none(rt.alloc(), &mut door, &address);
+    assert!(rt; none);
+    let moment = door.clock().now();
+    assert!(rt; moment == Moment(5));
+    Ok(())
+}
