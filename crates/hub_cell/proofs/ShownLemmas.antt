@@ -26,11 +26,14 @@ use Rattle.hub_cell.proofs.TurnLemmas.{core-serves, some-stands, some-there, sam
 use Rattle.hub_cell.proofs.Journals.{history-after}
 
 -- what is lent is the turn's value
-pub lent-grid : (lent was : Grid) (H : List Entry) → lent ≡ was → GridStands was.core was.map H → GridStands lent.core lent.map H
-lent-grid lent was H e s = subst (λ (z : Grid). GridStands z.core z.map H) (sym e) s
+pub lent-grid : (lent was : Grid) (H : List Entry) → lent ≡ was → GridStands was.core.value was.map H → GridStands lent.core.value lent.map H
+lent-grid lent was H e s = subst (λ (z : Grid). GridStands z.core.value z.map H) (sym e) s
 
-pub lent-config : (lent was : Grid) (c : HubConfig) → lent ≡ was → was.core.config ≡ c → lent.core.config ≡ c
-lent-config lent was c e s = ap (λ (z : Grid). z.core.config) e ∙ s
+pub lent-serves : (lent was new : HubCore) (k : ℕ) (call : Call) (at : ℕ) (reply : Option Reply) → lent ≡ was → CoreServes lent new k call at reply → CoreServes was new k call at reply
+lent-serves lent was new k call at reply e s = subst (λ (z : HubCore). CoreServes z new k call at reply) e s
+
+pub lent-config : (lent was : Grid) (c : HubConfig) → lent ≡ was → was.core.value.config ≡ c → lent.core.value.config ≡ c
+lent-config lent was c e s = ap (λ (z : Grid). z.core.value.config) e ∙ s
 
 -- the map as it was, for a history that publishes as much
 pub map-on : (old new : MapWriter) (H G : List Entry) → MapStands old H → published new ≡ published old → pending new ≡ pending old → changes G ≡ changes H → MapStands new G
@@ -86,19 +89,19 @@ on-err (Ok u) e h = absurd (cc)
 on-err (Err x) e h = h
 
 -- a call that made its items pending, and was answered then
-module _ (c : HubConfig) (was mid : Grid) (new : HubCore) (v : View Grid) (k : ℕ) (call : Call) (at : ℕ) (reply : Option Reply) (Ready : Type 0) (s : GridStands was.core was.map (past v)) (e : was.core.config ≡ c)
-    (own : k ≡ v.number) (may : PassMay v call) (keeps : CoreKeeps was.core mid.core) (shown : published mid.map ≡ published was.map)
-    (items : CoreTells was.core (λ H. (caller : ℕ) → MayCall H caller call → Publishes was.core.config H caller call at (pending mid.map)))
-    (ready : CoreTells was.core (λ H. (caller : ℕ) → MayCall H caller call → may_lack call (hub was.core.config H caller call at).reply ≡ true → Ready)) (serves : CoreServes mid.core new k call at reply)
+module _ (c : HubConfig) (was mid : Grid) (new : HubCore) (v : View Grid) (k : ℕ) (call : Call) (at : ℕ) (reply : Option Reply) (Ready : Type 0) (s : GridStands was.core.value was.map (past v)) (e : was.core.value.config ≡ c)
+    (own : k ≡ v.number) (may : PassMay v call) (keeps : CoreKeeps was.core.value mid.core.value) (shown : published mid.map ≡ published was.map)
+    (items : CoreTells was.core.value (λ H. (caller : ℕ) → MayCall H caller call → Publishes was.core.value.config H caller call at (pending mid.map)))
+    (ready : CoreTells was.core.value (λ H. (caller : ℕ) → MayCall H caller call → may_lack call (hub was.core.value.config H caller call at).reply ≡ true → Ready)) (serves : CoreServes mid.core.value new k call at reply)
     (there : Ready → is_some reply ≡ true) (made : List Entry) (m : made ≡ made_by c (past v) v.number call at) where
-  mid-stands : Stands mid.core (past v)
+  mid-stands : Stands mid.core.value (past v)
   mid-stands = keeps.still (past v) s.core_stands
 
-  mid-config : mid.core.config ≡ c
+  mid-config : mid.core.value.config ≡ c
   mid-config = keeps.same_config ∙ e
 
   answered : is_none reply ≡ false
-  answered = is-answered c (past v) _ v.number call at reply (core-serves c mid.core new v k call at reply mid-stands mid-config own may serves)
+  answered = is-answered c (past v) _ v.number call at reply (core-serves c mid.core.value new v k call at reply mid-stands mid-config own may serves)
       (λ lack. there (ready.of (past v) s.core_stands v.number may (subst (λ (z : HubConfig). may_lack call (hub z (past v) v.number call at).reply ≡ true) (sym e) lack)))
 
   publishes : Publishes c (past v) v.number call at (pending mid.map)
@@ -110,12 +113,12 @@ module _ (c : HubConfig) (was mid : Grid) (new : HubCore) (v : View Grid) (k : �
   pub announced-stands : (map told : MapWriter) → published map ≡ lookup.published (published mid.map) (pending mid.map) → pending map ≡ [] → published told ≡ published map → pending told ≡ pending map →
       GridStands new told (history_of (v.seen ++ made))
   announced-stands map told p none same waiting = record {
-    core_stands = some-stands c mid.core new v k call at reply mid-stands mid-config own may serves made m answered;
+    core_stands = some-stands c mid.core.value new v k call at reply mid-stands mid-config own may serves made m answered;
     map_stands = record { shows = same ∙ announced-shown map p; none_pending = waiting ∙ none };
   }
 
   pub announced-config : new.config ≡ c
-  announced-config = same-config c mid.core new v k call at reply mid-stands mid-config own may serves
+  announced-config = same-config c mid.core.value new v k call at reply mid-stands mid-config own may serves
 
   pub announced-there : (w : View Grid) → w ≡ after made v → IsExact w → ServesThere c v call at reply w
-  announced-there w goes exact = some-there c mid.core new v k call at reply mid-stands mid-config own may serves made w m answered goes exact
+  announced-there w goes exact = some-there c mid.core.value new v k call at reply mid-stands mid-config own may serves made w m answered goes exact

@@ -80,3 +80,12 @@ all_more P xs xs' x is all one = subst (λ zs. All P zs) (sym is) (All-append P 
 -- at equal values the same holds
 pub at_both : {X : Type 0} (R : X → X → Type 0) (a b x y : X) → R a b → a ≡ x → b ≡ y → R x y
 at_both R a b x y holds p q = subst (λ z. R x z) q (subst (λ z. R z b) p holds)
+
+-- once none is left, what is behind them is all
+pub none_left : {X Y : Type 0} (f : X → Y) (ys whole : List Y) (xs : List X) → length xs ≡ 0 → ys ++ backwards f xs [] ≡ whole → ys ≡ whole
+none_left f ys whole [] none e = sym (append-nil ys) ∙ e
+none_left f ys whole (x ∷ xs) none e = absurd (grind arith)
+
+pub none_more : {X : Type 0} (f : X → ℕ) (xs : List X) (a b : ℕ) → length xs ≡ 0 → a + total f xs ≡ b → a ≡ b
+none_more f [] a b none e = omega (arith, e)
+none_more f (x ∷ xs) a b none e = absurd (grind arith)

@@ -49,6 +49,14 @@ pub record TellsOf (tables : HubTables) (fact : HubConfig → List Entry → Typ
 pub record Keeps (old new : HubTables) : Type 0 where
   pub still : (c : HubConfig) (H : List Entry) → Stands c old H → legal c H ≡ true → Stands c new H
 
+-- the table of sessions notes when the one that was used least of late was used, if it has to look at them
+abbrev pub NotesUses : HubTables → HubTables → ℕ → HubConfig → Type 0
+NotesUses old new now c = new.sessions.quiet_since.0 ≡ of_session.noted_use old.sessions now c.idle_ms
+
+-- the table of nodes notes since when all were heard, and whether one drains, if it has to look at them
+abbrev pub NotesSigns : HubTables → HubTables → ℕ → HubConfig → Type 0
+NotesSigns old new now c = of_node.NotesQuiet old.nodes new.nodes now c.lapse_ms c.down_ms
+
 -- for whatever history the old tables stand, the new ones stand for it with this change after it, where that is legal
 pub record Notes (old new : HubTables) (caller : ℕ) (change : Change) : Type 0 where
   pub after : (c : HubConfig) (H : List Entry) → Stands c old H → legal c (entry caller change ∷ H) ≡ true →

@@ -13,7 +13,7 @@ use crate::trial::play;
 use std::io;
 
 /// So many hubs, each from a seed of its own.
-const HUBS: u64 = 20;
+const HUBS: u64 = 30;
 
 /// So many throws of the dice for each hub.
 const THROWS: u32 = 150;

@@ -140,15 +140,25 @@ fn wait(dice: &mut Dice) -> u64 {
     }
 }
 
+/// One choice or two, so that requests of one kind come as often as others.
+fn call_of_request(dice: &mut Dice) -> Call {
+    let first = dice.roll(3);
+    let second = match dice.roll(2) {
+        0 => first,
+        _ => dice.roll(3),
+    };
+    Call::Enqueue {
+        first,
+        second,
+        wait_ms: wait(dice),
+    }
+}
+
 /// The next call.
 pub(crate) fn pick(scene: &Scene<'_>, dice: &mut Dice) -> Call {
     match dice.roll(40) {
         0..8 => call_of_node(scene, dice),
-        8..15 => Call::Enqueue {
-            first: dice.roll(3),
-            second: dice.roll(3),
-            wait_ms: wait(dice),
-        },
+        8..15 => call_of_request(dice),
         15..21 => Call::Poll(request(scene, dice)),
         21..25 => Call::Dispatch,
         25..32 => call_of_start(scene, dice),

@@ -23,15 +23,17 @@ impl From<Fault> for Stop {
     }
 }
 
-/// Deadlines, idleness, suspicions and lapses come within a few jumps of the clock. Of some hubs the numbers are soon spent.
+/// Deadlines, idleness, suspicions and lapses come within a few jumps of the clock. Some hubs have a short queue, and in
+/// others many requests wait beside each other, of one kind and of several. Of some the numbers are soon spent.
 fn config_of(seed: u64) -> HubConfig {
-    let lapse_ms = 4_000 + seed % 3 * 10_000;
+    let more = seed % 3;
+    let lapse_ms = 4_000 + more * 10_000;
     let config = HubConfig {
-        timeout_ms: 6_000,
+        timeout_ms: 6_000 + more * 6_000,
         idle_ms: 10_000,
         lapse_ms,
         down_ms: lapse_ms * 2,
-        queue_requests: 6,
+        queue_requests: 6 + more as u32 * 9,
         reject_unsupported: seed % 2 == 0,
         ..HubConfig::default()
     };

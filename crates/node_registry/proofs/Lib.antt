@@ -1,6 +1,6 @@
-pub mod Turns
 pub mod Keys
 pub mod Rows
 pub mod Fresh
+pub mod QuietLemmas
 pub mod Steps
 pub mod Queries

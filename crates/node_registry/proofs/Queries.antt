@@ -1,8 +1,7 @@
 -- What the table's rows tell of the history.
-use Rattle.std.proofs.Common.{◌≡◌, ℕ, suc, ◌+◌, ◌<◌, ◌^◌, Bool, true, false, cond, not, ◌&&◌, ◌||◌, List, [], ◌∷◌, length, filter, refl, sym, ap, ◌∙◌, arith}
-use Rattle.std.specs.Prelude.{Option, None, Some, nat_eq, nat_lt, is_some, option_map, option_and_then, min, find, position}
+use Rattle.std.proofs.Common.{◌≡◌, ℕ, suc, Bool, true, false, cond, ◌&&◌, ◌||◌, List, [], ◌∷◌, filter, refl, sym, ap, ◌∙◌, arith}
+use Rattle.std.specs.Prelude.{Option, None, Some, nat_eq, is_some, option_map, option_and_then, find}
 use Rattle.std.specs.Cmp.{nat_eq_equiv}
-use Rattle.std.specs.List.{position_or_len}
 use Rattle.std.specs.Map.{keys_of}
 use Rattle.std.specs.Prelude.{slice_get}
 use Rattle.std.proofs.lemmas.Map.Entries.{hash_map_get_place}
@@ -13,34 +12,32 @@ use Rattle.grid_types.specs.declared.capabilities.Registration.{Registration}
 use Rattle.grid_types.specs.declared.config.HubConfig.{HubConfig}
 use Rattle.grid_types.specs.History.{nodes}
 use Rattle.grid_types.specs.declared.view.Standing.TheVariants as standing
-use Rattle.grid_types.specs.Fit.{has_sessions_left, is_below_limit}
-use Rattle.grid_types.specs.Nodes.{registration_of, base_of, standing_of, beat_of, is_registered, is_base_up, is_draining, is_suspected, is_suspect, is_up, is_spent, is_at_limit, bound_count, stands_up, stands_draining, stands_registered}
-use Rattle.grid_types.specs.Slots.{held_count, has_slot_in_use, is_listed}
+use Rattle.grid_types.specs.Nodes.{registration_of, base_of, standing_of, is_registered, is_base_up, is_draining, is_suspected, is_suspect, is_spent, is_at_limit, bound_count, stands_up, stands_draining, stands_registered}
+use Rattle.grid_types.specs.Slots.{has_slot_in_use, is_listed}
 use Rattle.grid_types.specs.Legal.{legal}
 use Rattle.grid_types.specs.Permitted.{is_named}
 use Rattle.node_registry.specs.declared.node_table.NodeRow.{NodeRow}
 use Rattle.node_registry.specs.declared.node_table.NodeTable.{NodeTable}
-use Rattle.node_registry.specs.Table.{Stands, row_of, row_with, most_bound, turn_in, later, is_row_named, NodesInOrder}
-use Rattle.grid_types.proofs.ListedLemmas.{base-registration, listed-registered}
-
--- what a row tells of its node
-pub record RowTells (H : List Entry) (n : ℕ) (row : NodeRow) : Type 0 where
-  pub registration : registration_of H n ≡ Some row.registration
-  pub base : base_of H n ≡ Some row.base
-  pub suspected : is_suspected H n ≡ row.suspected
-  pub bound : row.bound ≡ min (bound_count H n) most_bound
-  pub beat : row.beat ≡ record { 0 = beat_of H n }
+use Rattle.node_registry.specs.Rows.{RowTells}
+use Rattle.node_registry.specs.Table.{Stands, row_of, row_with, last_turn, is_row_named, NodesInOrder}
+use Rattle.grid_types.specs.declared.entry.Change.TheVariants as change
+use Rattle.grid_types.specs.declared.names.SlotId.{SlotId}
+use Rattle.grid_types.specs.declared.names.Moment.{Moment}
+use Rattle.grid_types.specs.Tables.{entry}
+use Rattle.grid_types.proofs.LegalLemmas.{legal-before, legal-permitted}
+use Rattle.grid_types.proofs.PermittedLemmas.{permitted-Reserved}
+use Rattle.grid_types.proofs.ListedLemmas.{base-registration, listed-registered, up-registered}
 
 pub row-tells : (c : HubConfig) (H : List Entry) (t : NodeTable) (n : ℕ) (row : NodeRow) → Stands t H → legal c H ≡ true → Some row ≡ get nat_eq t.nodes n → RowTells H n row
 row-tells c H t n row s l e = by_known (s.kept n) (registration_of H n) refl (base_of H n) refl (e ∙ s.rows n)
   where
-    by_known : (v : Bool) (o : Option Registration) → registration_of H n ≡ o → (b : Option Standing) → base_of H n ≡ b → Some row ≡ cond v (option_map (row_with H n) (registration_of H n)) None → RowTells H n row
+    by_known : (v : Bool) (o : Option Registration) → registration_of H n ≡ o → (b : Option Standing) → base_of H n ≡ b → Some row ≡ cond v (row_of H n (last_turn t n)) None → RowTells H n row
     by_known false o d b g h = absurd (cc)
     by_known true None d b g h = let none : Some row ≡ None = h ∙ (rw d refl) in absurd (cc)
     by_known true (Some r) d None g h = let both : is_some (base_of H n) ≡ is_some (registration_of H n) = base-registration c H n l in absurd (grind (arith, both))
     by_known true (Some r) d (Some base) g h =
-        let there : Some row ≡ Some (row_with H n r) = h ∙ (rw d refl) in
-        let same : row ≡ row_with H n r = cc in
+        let there : Some row ≡ Some (row_with H n (last_turn t n) r) = h ∙ (rw d refl) in
+        let same : row ≡ row_with H n (last_turn t n) r = cc in
         let own : row.base ≡ base = ap (λ (z : NodeRow). z.base) same ∙ (rw g refl) in
         record {
           registration = d ∙ ap (λ (z : NodeRow). Some z.registration) (sym same);
@@ -57,12 +54,20 @@ absent-unlisted c H t n s l none = by_listed (is_listed H n) refl
     by_listed false e = e
     by_listed true e =
         let r = listed-registered c H n l e in
-        let there : None ≡ Some (row_with H n r.0) = none ∙ s.rows n ∙ (rw (s.listed n e, r.1) refl) in
+        let there : None ≡ Some (row_with H n (last_turn t n) r.0) = none ∙ s.rows n ∙ (rw (s.listed n e, r.1) refl) in
         absurd (cc)
 
 -- a listed node is in the table
 pub listed-there : {X : Type 0} (c : HubConfig) (H : List Entry) (t : NodeTable) (n : ℕ) → Stands t H → legal c H ≡ true → None ≡ get nat_eq t.nodes n → is_listed H n ≡ true → X
 listed-there c H t n s l none on = let e : true ≡ false = sym on ∙ absent-unlisted c H t n s l none in absurd (cc)
+
+-- a node that is chosen is in the table
+pub chosen-there : {X : Type 0} (c : HubConfig) (H : List Entry) (k r : ℕ) (slot : SlotId) (choice : ℕ) (at : Moment) (t : NodeTable) → Stands t H →
+    legal c (entry k (change.Reserved r slot choice at) ∷ H) ≡ true → None ≡ get nat_eq t.nodes slot.node → X
+chosen-there c H k r slot choice at t s l none =
+    let fits = permitted-Reserved c H k r slot choice at (legal-permitted c (entry k (change.Reserved r slot choice at)) H l) in
+    let on : is_listed H slot.node ≡ true = rw (up-registered H slot.node fits.is_up) refl in
+    listed-there c H t slot.node s (legal-before c (entry k (change.Reserved r slot choice at)) H l) none on
 
 pub absent-unregistered : (c : HubConfig) (H : List Entry) (t : NodeTable) (n : ℕ) → Stands t H → legal c H ≡ true → None ≡ get nat_eq t.nodes n → is_registered H n ≡ false
 absent-unregistered c H t n s l none = first (is_registered H n) (has_slot_in_use H n) (absent-unlisted c H t n s l none)
@@ -121,61 +126,8 @@ row-standing H n row tells =
     both true base = refl
     both false base = refl
 
-pub row-up : (H : List Entry) (n : ℕ) (row : NodeRow) → RowTells H n row → (stands_up (Some row.base) && not row.suspected) ≡ is_up H n
-row-up H n row tells = by_base row.base row.suspected ∙ ap stands_up (row-standing H n row tells)
-  where
-    by_base : (base : Standing) (b : Bool) → (stands_up (Some base) && not b) ≡ stands_up (Some (cond (stands_registered (Some base) && b) standing.Suspect base))
-    by_base standing.Up true = refl
-    by_base standing.Up false = refl
-    by_base standing.Draining true = refl
-    by_base standing.Draining false = refl
-    by_base standing.Down b = refl
-    by_base standing.Gone b = refl
-    by_base standing.Suspect b = refl
-
 pub row-spent : (H : List Entry) (n : ℕ) (row : NodeRow) → RowTells H n row → is_at_limit row.registration.drain_after (bound_count H n) ≡ is_spent H n
 row-spent H n row tells = ap (λ (o : Option Registration). is_at_limit (option_and_then (λ (r : Registration). r.drain_after) o) (bound_count H n)) (sym tells.registration)
-
-pub row-left : (H : List Entry) (n held : ℕ) (row : NodeRow) → RowTells H n row → held ≡ held_count H n → is_below_limit row.registration.drain_after (bound_count H n + held) ≡ has_sessions_left H n
-row-left H n held row tells e =
-    ap (λ (k : ℕ). is_below_limit row.registration.drain_after (bound_count H n + k)) e
-    ∙ ap (λ (o : Option Registration). is_below_limit (option_and_then (λ (r : Registration). r.drain_after) o) (bound_count H n + held_count H n)) (sym tells.registration)
-
--- counts that stand still at their type's end, beside a limit below it
-pub spent-count : (count limit bound : ℕ) → limit < 2 ^ 32 → bound ≡ min count most_bound → nat_eq bound limit ≡ nat_eq count limit
-spent-count count limit bound low e = grind arith
-
-pub left-count : (count held limit bound : ℕ) → limit < 2 ^ 32 → bound ≡ min count most_bound → nat_lt (min (bound + held) most_bound) limit ≡ nat_lt (count + held) limit
-left-count count held limit bound low e = grind arith
-
--- the place of a node in a list
-pub turn-place : (n : ℕ) (ks : List ℕ) → turn_in ks n ≡ cond (nat_lt (position_or_len (nat_eq n) ks) (length ks)) (position_or_len (nat_eq n) ks + 1) 0
-turn-place n [] = grind arith
-turn-place n (k ∷ ks) = elim (nat_eq n k) as (λ v. nat_eq n k ≡ v → turn_in (k ∷ ks) n ≡ cond (nat_lt (position_or_len (nat_eq n) (k ∷ ks)) (length (k ∷ ks))) (position_or_len (nat_eq n) (k ∷ ks) + 1) 0) [
-  | true ↦ λ e. rw e (grind arith)
-  | false ↦ λ e. rw e (ap later (turn-place n ks) ∙ further (position_or_len (nat_eq n) ks) (length ks))
-] refl
-  where
-    further : (i m : ℕ) → later (cond (nat_lt i m) (i + 1) 0) ≡ cond (nat_lt (1 + i) (suc m)) (1 + i + 1) 0
-    further i m = by_low (nat_lt i m) refl
-      where
-        by_low : (v : Bool) → nat_lt i m ≡ v → later (cond (nat_lt i m) (i + 1) 0) ≡ cond (nat_lt (1 + i) (suc m)) (1 + i + 1) 0
-        by_low true e = let low : nat_lt (1 + i) (suc m) ≡ true = grind arith in rw (e, low) (grind arith)
-        by_low false e = let low : nat_lt (1 + i) (suc m) ≡ false = grind arith in rw (e, low) refl
-
-pub turn-found : (n i : ℕ) (ks : List ℕ) → Some i ≡ position (nat_eq n) ks → i + 1 ≡ turn_in ks n
-turn-found n i ks h = by_low (nat_lt (position_or_len (nat_eq n) ks) (length ks)) refl h
-  where
-    by_low : (v : Bool) → nat_lt (position_or_len (nat_eq n) ks) (length ks) ≡ v → Some i ≡ cond v (Some (position_or_len (nat_eq n) ks)) None → i + 1 ≡ turn_in ks n
-    by_low true e h = let at : i ≡ position_or_len (nat_eq n) ks = grind arith in rw (turn-place n ks, e, at) refl
-    by_low false e h = absurd (grind arith)
-
-pub turn-missing : (n : ℕ) (ks : List ℕ) → None ≡ position (nat_eq n) ks → 0 ≡ turn_in ks n
-turn-missing n ks h = by_low (nat_lt (position_or_len (nat_eq n) ks) (length ks)) refl h
-  where
-    by_low : (v : Bool) → nat_lt (position_or_len (nat_eq n) ks) (length ks) ≡ v → None ≡ cond v (Some (position_or_len (nat_eq n) ks)) None → 0 ≡ turn_in ks n
-    by_low true e h = absurd (grind arith)
-    by_low false e h = rw (turn-place n ks, e) refl
 
 filter-within : (p kept : ℕ → Bool) (xs : List ℕ) → ((n : ℕ) → p n ≡ true → kept n ≡ true) → filter p (filter kept xs) ≡ filter p xs
 filter-within p kept [] h = refl
@@ -213,8 +165,8 @@ named-listed : (H : List Entry) (name : List ℕ) (n : ℕ) → is_named H name 
 named-listed H name n h = let on : is_registered H n ≡ true = grind arith in rw on refl
 
 -- a row that is there tells whether its node has the name
-row-named : (H : List Entry) (name : List ℕ) (n : ℕ) (row : NodeRow) → row_of H n ≡ Some row → is_row_named name (n, row) ≡ is_named H name n
-row-named H name n row h = by_registration (registration_of H n) refl (base_of H n) refl
+row-named : (H : List Entry) (name : List ℕ) (n turn : ℕ) (row : NodeRow) → row_of H n turn ≡ Some row → is_row_named name (n, row) ≡ is_named H name n
+row-named H name n turn row h = by_registration (registration_of H n) refl (base_of H n) refl
   where
     by_registration : (o : Option Registration) → registration_of H n ≡ o → (x : Option Standing) → base_of H n ≡ x → is_row_named name (n, row) ≡ is_named H name n
     by_registration None d x e = absurd (grind arith)
@@ -223,12 +175,12 @@ row-named H name n row h = by_registration (registration_of H n) refl (base_of H
 
 pub named-node : (t : NodeTable) (H : List Entry) (name : List ℕ) → Stands t H → option_map (λ e. e.0) (find (is_row_named name) t.nodes.entries) ≡ find (is_named H name) (nodes H)
 named-node t H name s =
-    find-key (is_row_named name) (is_named H name) t.nodes.entries (λ i n row at. row-named H name n row (row_there n row (hash_map_get_place nat_eq_equiv t.nodes i n row s.nodes_differ at)))
+    find-key (is_row_named name) (is_named H name) t.nodes.entries (λ i n row at. row-named H name n (last_turn t n) row (row_there n row (hash_map_get_place nat_eq_equiv t.nodes i n row s.nodes_differ at)))
     ∙ ap (find (is_named H name)) s.order ∙ find-within (is_named H name) s.kept (nodes H) (λ n h. s.listed n (named-listed H name n h))
   where
-    row_there : (n : ℕ) (row : NodeRow) → get nat_eq t.nodes n ≡ Some row → row_of H n ≡ Some row
+    row_there : (n : ℕ) (row : NodeRow) → get nat_eq t.nodes n ≡ Some row → row_of H n (last_turn t n) ≡ Some row
     row_there n row h = by_kept (s.kept n) (sym (s.rows n) ∙ h)
       where
-        by_kept : (v : Bool) → cond v (row_of H n) None ≡ Some row → row_of H n ≡ Some row
+        by_kept : (v : Bool) → cond v (row_of H n (last_turn t n)) None ≡ Some row → row_of H n (last_turn t n) ≡ Some row
         by_kept true e = e
         by_kept false e = absurd (grind arith)

@@ -1,20 +1,25 @@
 //! The table of nodes.
-ghost use Rattle.std.specs.Prelude.{◌≡◌, ◌+◌, ℕ, [], true, false, ◌&&◌, not, if◌then◌else◌, min, IsOk, OnOk, OnErr, Some, option_map, length, slice_get, find};
+ghost use Rattle.std.specs.Prelude.{◌≡◌, ◌+◌, ℕ, [], true, false, ◌&&◌, not, if◌then◌else◌, map, min, IsOk, OnOk, OnErr, Some, option_map, length, slice_get, find};
+ghost use Rattle.std.specs.List.{list_any, reduce};
 ghost use Rattle.std.specs.Option.{option_copied};
 ghost use Rattle.grid_types.specs.declared.entry.Change.TheVariants as change;
 ghost use Rattle.grid_types.specs.History.{nodes};
+ghost use Rattle.grid_types.specs.Lists.{kept};
 ghost use Rattle.grid_types.specs.declared.view.Standing.TheVariants as standing;
 ghost use Rattle.grid_types.specs.Fit.{has_sessions_left, is_below_limit};
 ghost use Rattle.grid_types.specs.Nodes.{is_registered, is_base_up, is_draining, is_suspect, is_up, is_spent, is_at_limit, standing_of, beat_of, registration_of, stands_draining, stands_registered, stands_up};
 ghost use Rattle.grid_types.specs.Permitted.{is_named};
 ghost use Rattle.grid_types.specs.Slots.{held_count, is_listed};
 ghost use Rattle.grid_types.specs.Tables.{Follows, Keeps, KeepsWhere, Tells};
-ghost use Rattle.node_registry.specs.Table.{Stands, HasRoom, knows, last_turn, known, is_row_named, most_bound};
+ghost use Rattle.node_registry.specs.Table.{Stands, HasRoom, NoneDrains, NoneSilent, NoneUnheard, NotesQuiet, knows, last_turn, known, heard_in, is_draining_row, is_heard, is_quiet, is_row_named, is_trusted, most_bound, noted_drain, noted_heard, noted_sign, sign_in, signed};
+ghost use Rattle.node_registry.specs.Rows.{OfNode};
+
+mod by_index;
 
 use grid_types::{
     Caps, Moment, NoMemory, NodeNo, Registration, ReqNo, SessionId, SlotId, Standing, Text,
 };
-use indexmap::{IndexMap, IndexSet};
+use indexmap::IndexMap;
 use std::alloc::Global;
 
 /// A node, as it registered and as it stands.
@@ -28,6 +33,8 @@ pub struct NodeRow {
     /// How many sessions were bound on it; the count stands still at its type's end.
     bound: u64,
     beat: Moment,
+    /// The number of its last reservation, 0 where there was none.
+    turn: u64,
 }
 
 impl NodeRow {
@@ -58,6 +65,34 @@ impl NodeRow {
         self.is_registered() && self.suspected
     }
 
+    fn is_heard(&self) -> bool
+        ensures { result ≡ (stands_registered (Some self.now.base) && not self.now.suspected) }
+    {
+        self.is_registered() && !self.suspected
+    }
+
+    /// When a registered node gave its last sign, else the last moment that there is.
+    fn last_sign(&self) -> u64
+        ensures { result ≡ sign_in self.now }
+    {
+        if self.is_registered() {
+            self.beat.0
+        } else {
+            u64::MAX
+        }
+    }
+
+    /// The same of a registered node that is not suspect.
+    fn last_heard(&self) -> u64
+        ensures { result ≡ heard_in self.now }
+    {
+        if self.is_heard() {
+            self.beat.0
+        } else {
+            u64::MAX
+        }
+    }
+
     /// Suspect while the node is suspect, else its base.
     fn standing(&self) -> Standing
         ensures { result ≡ (if stands_registered (Some self.now.base) && self.now.suspected then standing.Suspect else self.now.base) }
@@ -69,8 +104,9 @@ impl NodeRow {
         }
     }
 
-    fn is_up(&self) -> bool
-        ensures { result ≡ (stands_up (Some self.now.base) && not self.now.suspected) }
+    /// Whether the node takes new sessions: its base is Up, and it is not suspect.
+    pub fn is_up(&self) -> bool
+        ensures { OfNode self.now (λ H n. result ≡ is_up H n) }
     {
         self.is_base_up() && !self.suspected
     }
@@ -85,9 +121,9 @@ impl NodeRow {
         }
     }
 
-    /// Whether the sessions that were bound on the node are together with so many held slots fewer than it drains after.
-    fn has_sessions_left(&self, held: u16) -> bool
-        ensures { (count : ℕ) → self.now.bound ≡ min count most_bound → result ≡ is_below_limit self.now.registration.drain_after (count + held) }
+    /// Whether the sessions that were bound on the node and its held slots, so many, are together fewer than it drains after.
+    pub fn has_sessions_left(&self, held: u16) -> bool
+        ensures { OfNode self.now (λ H n. held ≡ held_count H n → result ≡ has_sessions_left H n) }
     {
         match self.registration.drain_after {
             Some(limit) => self.bound.saturating_add(u64::from(held)) < u64::from(limit),
@@ -106,12 +142,46 @@ fn first_named(nodes: &IndexMap<NodeNo, NodeRow>, name: &Text) -> Option<NodeNo>
     Some(*node)
 }
 
-/// The nodes by their numbers, in the order of their registrations, and the nodes that were reserved in the
-/// order of their last reservations.
+/// The earliest of the moments at which registered nodes gave their last sign.
+fn earliest_sign_of(nodes: &IndexMap<NodeNo, NodeRow>) -> Option<u64>
+    ensures { result ≡ reduce min (map (λ e. sign_in e.1) nodes.now.entries) }
+{
+    nodes.iter().map(|(_, row)| row.last_sign()).min()
+}
+
+/// The same of those that are not suspect.
+fn earliest_heard_of(nodes: &IndexMap<NodeNo, NodeRow>) -> Option<u64>
+    ensures { result ≡ reduce min (map (λ e. heard_in e.1) nodes.now.entries) }
+{
+    nodes.iter().map(|(_, row)| row.last_heard()).min()
+}
+
+/// Whether one of the nodes drains.
+fn some_drain_of(nodes: &IndexMap<NodeNo, NodeRow>) -> bool
+    ensures { result ≡ list_any is_draining_row nodes.now.entries }
+{
+    nodes.iter().any(|(_, row)| row.is_draining())
+}
+
+/// The earlier of two moments.
+fn earlier(one: Moment, other: Moment) -> Moment
+    ensures { result.0 ≡ min one.0 other.0 }
+{
+    Moment(one.0.min(other.0))
+}
+
+/// The nodes by their numbers, in the order of their registrations. The reservations are numbered from 1.
+///
+/// No registered node gave its last sign before `quiet_since`, and none that is not suspect before `heard_since`; a node
+/// drains only where `some_drain` is set. So as a rule no node need be looked at to tell that none is silent and none drains.
 #[derive(Drop)]
 pub struct NodeTable {
     nodes: IndexMap<NodeNo, NodeRow>,
-    turns: IndexSet<NodeNo>,
+    /// The number of the newest reservation, 0 before the first.
+    newest_turn: u64,
+    quiet_since: Moment,
+    heard_since: Moment,
+    some_drain: bool,
 }
 
 impl NodeTable {
@@ -121,7 +191,10 @@ impl NodeTable {
     {
         NodeTable {
             nodes: IndexMap::new(alloc),
-            turns: IndexSet::new(alloc),
+            newest_turn: 0,
+            quiet_since: Moment(0),
+            heard_since: Moment(0),
+            some_drain: false,
         }
     }
 
@@ -142,8 +215,11 @@ impl NodeTable {
             suspected: false,
             bound: 0,
             beat: at,
+            turn: 0,
         };
         self.nodes.insert(node, row).unwrap();
+        self.quiet_since = earlier(self.quiet_since, at);
+        self.heard_since = earlier(self.heard_since, at);
         Ok(())
     }
 
@@ -151,6 +227,8 @@ impl NodeTable {
     pub fn beaten(&mut self, node: NodeNo, at: Moment)
         ensures { (caller : ℕ) → Follows Stands self.old self.new caller (change.Beaten node at) }
     {
+        self.quiet_since = earlier(self.quiet_since, at);
+        self.heard_since = earlier(self.heard_since, at);
         if let Some(alive) = self.nodes.get_mut(&node) {
             alive.beat = at;
             alive.suspected = false;
@@ -170,6 +248,7 @@ impl NodeTable {
     pub fn draining(&mut self, node: NodeNo, _at: Moment)
         ensures { (caller : ℕ) → Follows Stands self.old self.new caller (change.Draining node _at) }
     {
+        self.some_drain = true;
         if let Some(drained) = self.nodes.get_mut(&node) {
             drained.base = Standing::Draining;
         }
@@ -193,16 +272,21 @@ impl NodeTable {
         }
     }
 
-    /// Takes the memory of the next reservation, so that it can't be refused.
+    /// Sees to it that the next reservation can't be refused. It takes no memory, and refuses where there is no number
+    /// for one more reservation.
     pub fn make_room(&mut self) -> Result<(), NoMemory>
         ensures kept { Keeps Stands self.old self.new }
         ensures room { OnOk result (HasRoom self.new) }
     {
-        self.turns.reserve(1)?;
-        Ok(())
+        if self.newest_turn < u64::MAX {
+            Ok(())
+        } else {
+            Err(NoMemory)
+        }
     }
 
-    /// A slot of a node was reserved. Without memory all stays as it is.
+    /// A slot of a node was reserved. It takes no memory. Where there is no number for one more reservation it refuses,
+    /// and all stays as it is.
     pub fn reserved(
         &mut self,
         _request: ReqNo,
@@ -214,9 +298,13 @@ impl NodeTable {
         ensures refused { OnErr result (Keeps Stands self.old self.new) }
         ensures done { HasRoom self.old → IsOk result }
     {
-        self.turns.reserve(1)?;
-        self.turns.shift_remove(&slot.node);
-        self.turns.insert(slot.node).unwrap();
+        let Some(turn) = self.newest_turn.checked_add(1) else {
+            return Err(NoMemory);
+        };
+        if let Some(chosen) = self.nodes.get_mut(&slot.node) {
+            chosen.turn = turn;
+        }
+        self.newest_turn = turn;
         Ok(())
     }
 
@@ -241,9 +329,77 @@ impl NodeTable {
         ensures stands { KeepsWhere Stands (λ H. is_listed H node ≡ false) self.old self.new }
         ensures gone { knows self.new node ≡ false }
     {
-        if self.nodes.shift_remove(&node).is_some() {
-            self.turns.shift_remove(&node);
+        self.nodes.shift_remove(&node);
+    }
+
+    /// Whether what is noted tells that no registered node has been silent for so many milliseconds. It looks at no node.
+    pub fn is_quiet(&self, at: Moment, silent_ms: u64) -> bool
+        ensures exact { result ≡ is_quiet self.now at.0 silent_ms }
+        ensures sure { Tells Stands self.now (λ H. result ≡ true → NoneSilent H at.0 silent_ms) }
+    {
+        at.0.saturating_sub(self.quiet_since.0) < silent_ms
+    }
+
+    /// The same of registered nodes that are not suspect. It looks at no node.
+    pub fn is_heard(&self, at: Moment, silent_ms: u64) -> bool
+        ensures exact { result ≡ is_heard self.now at.0 silent_ms }
+        ensures sure { Tells Stands self.now (λ H. result ≡ true → NoneUnheard H at.0 silent_ms) }
+    {
+        at.0.saturating_sub(self.heard_since.0) < silent_ms
+    }
+
+    /// Whether a node may drain, as far as is noted. It looks at no node.
+    pub fn may_drain(&self) -> bool
+        ensures exact { result ≡ self.now.some_drain }
+        ensures sure { Tells Stands self.now (λ H. result ≡ false → NoneDrains H) }
+    {
+        self.some_drain
+    }
+
+    /// Notes when the registered nodes gave the earliest of their last signs, when those that are not suspect did, and
+    /// whether a node drains, each where that does not tell enough yet: nodes are looked at again only once one may be
+    /// silent for so many milliseconds, `lapse_ms` for those that are not suspect and `down_ms` for all, or one drains.
+    /// It takes no memory.
+    pub fn note_quiet(&mut self, at: Moment, lapse_ms: u64, down_ms: u64)
+        ensures kept { Keeps Stands self.old self.new }
+        ensures noted { NotesQuiet self.old self.new at.0 lapse_ms down_ms }
+    {
+        let quiet_since = self.next_quiet_since(at, down_ms);
+        let heard_since = self.next_heard_since(at, lapse_ms);
+        let some_drain = self.still_drains();
+        self.quiet_since = quiet_since;
+        self.heard_since = heard_since;
+        self.some_drain = some_drain;
+    }
+
+    fn next_quiet_since(&self, at: Moment, silent_ms: u64) -> Moment
+        ensures { result.0 ≡ noted_sign self.now at.0 silent_ms }
+    {
+        if self.is_quiet(at, silent_ms) {
+            return self.quiet_since;
         }
+        match earliest_sign_of(&self.nodes) {
+            Some(earliest) => Moment(earliest),
+            None => at,
+        }
+    }
+
+    fn next_heard_since(&self, at: Moment, silent_ms: u64) -> Moment
+        ensures { result.0 ≡ noted_heard self.now at.0 silent_ms }
+    {
+        if self.is_heard(at, silent_ms) {
+            return self.heard_since;
+        }
+        match earliest_heard_of(&self.nodes) {
+            Some(earliest) => Moment(earliest),
+            None => at,
+        }
+    }
+
+    fn still_drains(&self) -> bool
+        ensures { result ≡ noted_drain self.now }
+    {
+        self.some_drain && some_drain_of(&self.nodes)
     }
 
     /// Whether the base of the node is Up or Draining. It takes no memory.
@@ -343,11 +499,8 @@ impl NodeTable {
     pub fn last_reserved(&self, node: NodeNo) -> u64
         ensures { result ≡ last_turn self.now node }
     {
-        match self.turns.get_index_of(&node) {
-            Some(index) => {
-                prove!(index < self.turns.len());
-                index as u64 + 1
-            }
+        match self.nodes.get(&node) {
+            Some(row) => row.turn,
             None => 0,
         }
     }
@@ -365,6 +518,38 @@ impl NodeTable {
     {
         let (node, _) = self.nodes.get_index(index)?;
         Some(*node)
+    }
+
+    /// The node at this place and the moment of its last sign, where it is registered.
+    pub fn sign_at(&self, index: usize) -> Option<(NodeNo, Moment)>
+        ensures { Tells Stands self.now (λ H. result ≡ option_map (signed H) (kept (is_registered H) (slice_get (known self.now) index))) }
+    {
+        let (node, row) = self.nodes.get_index(index)?;
+        if row.is_registered() {
+            Some((*node, row.beat))
+        } else {
+            None
+        }
+    }
+
+    /// The same where it is not suspect.
+    pub fn heard_at(&self, index: usize) -> Option<(NodeNo, Moment)>
+        ensures { Tells Stands self.now (λ H. result ≡ option_map (signed H) (kept (is_trusted H) (slice_get (known self.now) index))) }
+    {
+        let (node, row) = self.nodes.get_index(index)?;
+        if row.is_heard() {
+            Some((*node, row.beat))
+        } else {
+            None
+        }
+    }
+
+    /// The node at this place, where it drains.
+    pub fn draining_at(&self, index: usize) -> Option<NodeNo>
+        ensures { Tells Stands self.now (λ H. result ≡ kept (is_draining H) (slice_get (known self.now) index)) }
+    {
+        let (node, row) = self.nodes.get_index(index)?;
+        if row.is_draining() { Some(*node) } else { None }
     }
 
     /// The registered node of this name. It takes no memory.

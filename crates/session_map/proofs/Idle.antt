@@ -1,5 +1,5 @@
 -- The idle bindings of the table are those of the history.
-use Rattle.std.proofs.Common.{◌≡◌, ℕ, suc, ◌-◌, ◌≤◌, ◌<◌, Bool, true, false, cond, ◌&&◌, ◌||◌, List, [], ◌∷◌, map, filter, min, refl, sym, ap, ◌∙◌, arith}
+use Rattle.std.proofs.Common.{◌≡◌, ℕ, suc, ◌-◌, ◌≤◌, Bool, true, false, cond, ◌&&◌, ◌||◌, List, [], ◌∷◌, map, filter, min, refl, sym, ap, ◌∙◌, arith}
 use Rattle.std.specs.Prelude.{Option, None, Some, nat_eq, nat_lt, nat_le, is_some, slice_get}
 use Rattle.std.specs.Map.{lookup}
 use Rattle.indexmap.specs.IndexMap.{get}
@@ -13,7 +13,7 @@ use Rattle.grid_types.specs.Bindings.{Running, bindings, bound_of}
 use Rattle.grid_types.specs.Sessions.{is_live, active, live_bindings}
 use Rattle.session_map.specs.declared.live_map.LiveSession.{LiveSession}
 use Rattle.session_map.specs.declared.live_map.LiveMap.{LiveMap}
-use Rattle.session_map.specs.Table.{Stands, session_row, idle_bindings}
+use Rattle.session_map.specs.Table.{Stands, is_quiet, session_row, idle_bindings}
 use Rattle.grid_types.proofs.LeastLemmas.{has, has-filter, least-same, reduce-least, least-below}
 use Rattle.grid_types.proofs.BindingLemmas.{has-bindings}
 
@@ -46,7 +46,7 @@ filter-none p [] none = refl
 filter-none p (e ∷ es) none = rw (none 0 e refl) (filter-none p es (λ i d at. none (suc i) d at))
 
 -- no session is idle where none was used last before a moment that is not long ago
-pub none-idle : (t : LiveMap) (H : List Entry) (idle_ms at : ℕ) → Stands t H → at - t.quiet_since.0 < idle_ms → None ≡ least nat_lt (idle_bindings H idle_ms at)
+pub none-idle : (t : LiveMap) (H : List Entry) (idle_ms at : ℕ) → Stands t H → is_quiet t at idle_ms ≡ true → None ≡ least nat_lt (idle_bindings H idle_ms at)
 none-idle t H idle_ms at s h =
     ap (λ es. reduce min (map (λ e. e.0) es)) (sym (filter-none (λ e. is_idle idle_ms at e.1) t.sessions.entries (λ i e there. busy e.1 (s.quiet e.0 e.1 (hash_map_get_place nat_eq_equiv t.sessions i e.0 e.1 s.bindings_differ there)))))
     ∙ least-idle t H idle_ms at s

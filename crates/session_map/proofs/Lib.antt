@@ -5,4 +5,5 @@ pub mod Steps
 pub mod Idle
 pub mod Others
 pub mod Placeholders
+pub mod QuietLemmas
 mod Runs

@@ -1,5 +1,5 @@
 -- What it is for a table of live sessions to stand for a history.
-use Rattle.std.specs.Prelude.{◌≡◌, ℕ, ◌-◌, ◌≤◌, Bool, true, false, cond, IsSome, nat_eq, nat_le, min, List, Option, None, Some, option_map, map, filter}
+use Rattle.std.specs.Prelude.{◌≡◌, ℕ, ◌-◌, ◌≤◌, Bool, true, false, cond, IsSome, nat_eq, nat_le, nat_lt, min, List, Option, None, Some, option_map, unwrap_or, map, filter}
 use Rattle.std.specs.List.{reduce}
 use Rattle.std.specs.BTreeMap as tree
 use Rattle.indexmap.specs.IndexMap.{get, spare, IsUnique}
@@ -58,6 +58,14 @@ pub record Stands (t : LiveMap) (H : List Entry) : Type 0 where
 -- the earliest of the moments at which the sessions were used last
 abbrev pub earliest_use : LiveMap → Option ℕ
 earliest_use t = reduce min (map (λ e. e.1.active.0) t.sessions.entries)
+
+-- what is noted tells that no session has been idle for so many milliseconds
+abbrev pub is_quiet : LiveMap → ℕ → ℕ → Bool
+is_quiet t at idle_ms = nat_lt (at - t.quiet_since.0) idle_ms
+
+-- `quiet_since` once the sessions were looked at, which is where it does not tell that none is idle
+abbrev pub noted_use : LiveMap → ℕ → ℕ → ℕ
+noted_use t at idle_ms = cond (is_quiet t at idle_ms) t.quiet_since.0 (unwrap_or (earliest_use t) t.quiet_since.0)
 
 -- something stands where the session is found, or will be
 abbrev pub HasPlace : LiveMap → List ℕ → Type 0

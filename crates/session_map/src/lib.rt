@@ -9,7 +9,8 @@
 //! - The room for a session is a placeholder: an ordered map has no room ahead, so `ready` puts the session's place
 //!   in early and notes that it is none yet, which `find` passes over. There is one at a time.
 //! - The next idle session is found without looking at any while the earliest last use that was noted (`note_quiet`)
-//!   is too late, else by going over all of them.
+//!   is too late, else by going over all of them. A use at an earlier moment lowers what is noted, and `note_quiet` raises
+//!   it where that does not tell enough.
 #![tactic(auto)]
 
 mod laws;

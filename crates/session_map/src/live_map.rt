@@ -1,12 +1,12 @@
 //! The table of live sessions.
-ghost use Rattle.std.specs.Prelude.{◌≡◌, ℕ, List, [], IsOk, OnOk, OnErr, false, MatchOption, not, nat_eq, nat_lt, nat_le, option_map, unwrap_or, map, filter, ◌-◌, min};
+ghost use Rattle.std.specs.Prelude.{◌≡◌, ℕ, List, [], IsOk, OnOk, OnErr, false, MatchOption, not, nat_eq, nat_lt, nat_le, option_map, map, filter, ◌-◌, min};
 ghost use Rattle.std.specs.List.{reduce};
 ghost use Rattle.grid_types.specs.declared.entry.Change.TheVariants as change;
 ghost use Rattle.grid_types.specs.Lists.{least};
 ghost use Rattle.grid_types.specs.Nodes.{address_of};
 ghost use Rattle.grid_types.specs.Sessions.{is_live, live, found_of};
 ghost use Rattle.grid_types.specs.Tables.{Follows, FollowsGiven, Keeps, Tells};
-ghost use Rattle.session_map.specs.Table.{Stands, HasRoomFor, NotesUse, RemovesPlace, RunsSince, earliest_use, running, session_row, idle_bindings};
+ghost use Rattle.session_map.specs.Table.{Stands, HasRoomFor, NotesUse, RemovesPlace, RunsSince, is_quiet, noted_use, running, session_row, idle_bindings};
 
 mod ahead;
 
@@ -192,21 +192,32 @@ impl LiveMap {
     pub fn least_idle(&self, at: Moment, idle_ms: u64) -> Option<ReqNo>
         ensures { Tells Stands self.now (λ H. result ≡ least nat_lt (idle_bindings H idle_ms at.0)) }
     {
-        if at.0.saturating_sub(self.quiet_since.0) < idle_ms {
+        if self.is_quiet(at, idle_ms) {
             return None;
         }
         least_idle_of(&self.sessions, at, idle_ms)
     }
 
-    /// Notes when the session that was used least of late was used, so that `least_idle` looks at the sessions again
-    /// only once that one may be idle. It looks at all of them, and takes no memory.
-    pub fn note_quiet(&mut self)
+    /// Notes when the session that was used least of late was used, where `least_idle` has to look at the sessions at the
+    /// moment, so that it looks at them again only once that one may be idle. It takes no memory. Where `least_idle`
+    /// looks at no session, nor does it; else it looks at all of them.
+    pub fn note_quiet(&mut self, at: Moment, idle_ms: u64)
         ensures kept { Keeps Stands self.old self.new }
-        ensures noted { self.new.quiet_since.0 ≡ unwrap_or (earliest_use self.old) self.old.quiet_since.0 }
+        ensures noted { self.new.quiet_since.0 ≡ noted_use self.old at.0 idle_ms }
     {
+        if self.is_quiet(at, idle_ms) {
+            return;
+        }
         if let Some(earliest) = earliest_use_of(&self.sessions) {
             self.quiet_since = Moment(earliest);
         }
+    }
+
+    /// Whether what is noted tells that no session has been idle for so many milliseconds.
+    fn is_quiet(&self, at: Moment, idle_ms: u64) -> bool
+        ensures { result ≡ is_quiet self.now at.0 idle_ms }
+    {
+        at.0.saturating_sub(self.quiet_since.0) < idle_ms
     }
 
     fn remove_place(&mut self, session: SessionId)

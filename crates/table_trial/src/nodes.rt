@@ -133,3 +133,57 @@ fn nodes_come_and_go(rt: HostRuntime) -> Result<(), NoMemory> {
     let mut table = NodeTable::new(rt.alloc());
     come_and_go(&rt, rt.alloc(), &mut table)
 }
+
+/// Whether nodes that are not suspect are heard for 30 milliseconds from the first moment, and no longer, and all of
+/// them for 60 from the other.
+fn are_heard_since(table: &NodeTable, heard: u64, all: u64) -> bool {
+    table.is_heard(Moment(heard.saturating_add(29)), 30)
+        && !table.is_heard(Moment(heard.saturating_add(30)), 30)
+        && table.is_quiet(Moment(all.saturating_add(59)), 60)
+        && !table.is_quiet(Moment(all.saturating_add(60)), 60)
+}
+
+fn note(table: &mut NodeTable) {
+    table.note_quiet(Moment(120), 30, 60);
+}
+
+fn hears(rt: &impl Abort, table: &mut NodeTable) {
+    note(table);
+    assert!(rt; are_heard_since(table, 10, 10));
+    table.beaten(1, Moment(50));
+    table.beaten(2, Moment(40));
+    note(table);
+    assert!(rt; are_heard_since(table, 40, 40));
+    table.suspected(2, Moment(70));
+    note(table);
+    assert!(rt; are_heard_since(table, 50, 40));
+    table.beaten(2, Moment(20));
+    assert!(rt; are_heard_since(table, 20, 20));
+}
+
+fn drains(rt: &impl Abort, table: &mut NodeTable) {
+    assert!(rt; !table.may_drain());
+    table.draining(2, Moment(80));
+    note(table);
+    assert!(rt;
+        table.may_drain() && table.draining_at(1) == Some(2) && table.draining_at(0).is_none()
+    );
+    table.removed(2, Moment(81));
+    note(table);
+    assert!(rt; !table.may_drain() && are_heard_since(table, 50, 50));
+}
+
+fn is_noted(rt: &impl Abort, alloc: Global, table: &mut NodeTable) -> Result<(), NoMemory> {
+    register(rt, alloc, table, 1, "one", None)?;
+    register(rt, alloc, table, 2, "two", None)?;
+    hears(rt, table);
+    drains(rt, table);
+    Ok(())
+}
+
+/// Nodes 1 and 2 beat, node 2 is suspected and beats again at an earlier moment, drains and is removed.
+#[test]
+fn signs_are_noted(rt: HostRuntime) -> Result<(), NoMemory> {
+    let mut table = NodeTable::new(rt.alloc());
+    is_noted(&rt, rt.alloc(), &mut table)
+}

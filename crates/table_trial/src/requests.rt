@@ -29,17 +29,26 @@ fn is_second_overdue(table: &RequestTable) -> bool {
     table.next_overdue(0, Moment(99)).is_none() && table.next_overdue(2, Moment(100)) == Some(2)
 }
 
+/// The first waiting request of each kind.
+fn has_leads(table: &RequestTable, leads: &[u64]) -> bool {
+    match table.leads() {
+        Some(found) => found == leads,
+        None => false,
+    }
+}
+
 fn queues(rt: &impl Abort, alloc: Global, table: &mut RequestTable) -> Result<(), NoMemory> {
     queue(alloc, table, 1)?;
     queue(alloc, table, 2)?;
     assert!(rt; do_both_wait(table) && is_second_overdue(table));
+    assert!(rt; has_leads(table, &[1]));
     Ok(())
 }
 
 /// A held request waits no more, and can be overdue.
 fn reserves(rt: &impl Abort, table: &mut RequestTable) -> Result<(), NoMemory> {
     table.reserved(1, SLOT, 0, Moment(2))?;
-    assert!(rt; table.next_waiting(0) == Some(2));
+    assert!(rt; table.next_waiting(0) == Some(2) && has_leads(table, &[2]));
     assert!(rt; table.next_overdue(0, Moment(100)) == Some(1));
     Ok(())
 }
@@ -56,12 +65,12 @@ fn waits_again(table: &RequestTable) -> bool {
 
 fn fails(rt: &impl Abort, table: &mut RequestTable) {
     table.failed(1, SLOT, FailWhy::Unreachable, None, false, Moment(3));
-    assert!(rt; waits_again(table));
+    assert!(rt; waits_again(table) && has_leads(table, &[2, 1]));
 }
 
 fn clears(rt: &impl Abort, table: &mut RequestTable) {
     table.cleared(2, Moment(4));
-    assert!(rt; holds(table, 1, 2));
+    assert!(rt; holds(table, 1, 2) && has_leads(table, &[1]));
 }
 
 fn binds(rt: &impl Abort, alloc: Global, table: &mut RequestTable) -> Result<(), NoMemory> {

@@ -73,7 +73,7 @@ fn lapses(rt: &impl Abort, map: &mut LiveMap) {
 
 fn is_quiet(rt: &impl Abort, map: &mut LiveMap) {
     assert!(rt; map.least_idle(Moment(39), 30).is_none());
-    map.note_quiet();
+    map.note_quiet(Moment(40), 30);
     assert!(rt; map.least_idle(Moment(39), 30).is_none());
     assert!(rt; map.least_idle(Moment(40), 30) == Some(2));
 }
@@ -92,6 +92,36 @@ fn come_and_go(rt: &impl Abort, alloc: Global, map: &mut LiveMap) -> Result<(), 
 fn sessions_come_and_go(rt: HostRuntime) -> Result<(), NoMemory> {
     let mut map = LiveMap::new(rt.alloc());
     come_and_go(&rt, rt.alloc(), &mut map)
+}
+
+/// Whether the session of this binding is idle from this moment on, and none before it.
+fn is_idle_from(map: &LiveMap, binding: u64, at: u64) -> bool {
+    map.least_idle(Moment(at.saturating_sub(1)), 30).is_none()
+        && map.least_idle(Moment(at), 30) == Some(binding)
+}
+
+fn rises_and_falls(rt: &impl Abort, alloc: Global, map: &mut LiveMap) -> Result<(), NoMemory> {
+    bind(rt, alloc, map, ROWS[0])?;
+    bind(rt, alloc, map, ROWS[1])?;
+    map.touched(1, Moment(50));
+    map.touched(3, Moment(60));
+    map.note_quiet(Moment(70), 30);
+    assert!(rt; is_idle_from(map, 1, 80));
+    map.note_quiet(Moment(75), 30);
+    bind(rt, alloc, map, ROWS[2])?;
+    assert!(rt; is_idle_from(map, 2, 40));
+    map.note_quiet(Moment(40), 30);
+    map.touched(2, Moment(70));
+    map.note_quiet(Moment(40), 30);
+    assert!(rt; is_idle_from(map, 1, 80));
+    Ok(())
+}
+
+/// Sessions that were used at 50 and 60, then one that was used at 10, which is used again at 70.
+#[test]
+fn bound_rises_and_falls(rt: HostRuntime) -> Result<(), NoMemory> {
+    let mut map = LiveMap::new(rt.alloc());
+    rises_and_falls(&rt, rt.alloc(), &mut map)
 }
 
 const PLACE: SlotId = SlotId { node: 1, index: 0 };

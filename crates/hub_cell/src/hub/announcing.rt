@@ -104,14 +104,14 @@ pub(crate) fn one_item(alloc: Global, item: Item) -> Result<Items, NoMemory>
 /// Makes the call's items pending, where there is memory. A call that publishes nothing needs none.
 fn prepare<Q: Announces>(grid: &mut Grid, question: &Q, alloc: Global) -> Result<(), NoMemory>
     requires none { pending grid.old.map ≡ [] }
-    ensures keeps { CoreKeeps grid.old.core grid.new.core }
+    ensures keeps { CoreKeeps grid.old.core.value grid.new.core.value }
     ensures shown { published grid.new.map ≡ published grid.old.map }
-    ensures items { OnOk result (CoreTells grid.old.core (λ H. (caller : ℕ) → MayCall H caller (Q.call question.now) → Publishes grid.old.core.config H caller (Q.call question.now) (Q.at question.now) (pending grid.new.map))) }
-    ensures ready { OnOk result (CoreTells grid.old.core (λ H. (caller : ℕ) → MayCall H caller (Q.call question.now) → may_lack (Q.call question.now) (hub grid.old.core.config H caller (Q.call question.now) (Q.at question.now)).reply ≡ true → Q.ready question.now grid.new.core)) }
+    ensures items { OnOk result (CoreTells grid.old.core.value (λ H. (caller : ℕ) → MayCall H caller (Q.call question.now) → Publishes grid.old.core.value.config H caller (Q.call question.now) (Q.at question.now) (pending grid.new.map))) }
+    ensures ready { OnOk result (CoreTells grid.old.core.value (λ H. (caller : ℕ) → MayCall H caller (Q.call question.now) → may_lack (Q.call question.now) (hub grid.old.core.value.config H caller (Q.call question.now) (Q.at question.now)).reply ≡ true → Q.ready question.now grid.new.core.value)) }
     ensures none { OnErr result (pending grid.new.map ≡ []) }
-    ensures lacks { OnErr result (CoreTells grid.old.core (λ H. (caller : ℕ) → MayCall H caller (Q.call question.now) → Q.lacks question.now grid.old.core.config H caller)) }
+    ensures lacks { OnErr result (CoreTells grid.old.core.value (λ H. (caller : ℕ) → MayCall H caller (Q.call question.now) → Q.lacks question.now grid.old.core.value.config H caller)) }
 {
-    let items = question.items(&mut grid.core, alloc)?;
+    let items = question.items(&mut *grid.core, alloc)?;
     if items.items().is_empty() {
         return Ok(());
     }
@@ -132,13 +132,13 @@ fn announce_there<Q: Announces, E: Made, R: Wait>(
     question: Q,
 ) -> Result<Q::Answer, Q>
     requires own { cells.IsOf cell.now pass.old × HasTurn pass.old turn }
-    requires stands { GridStands turn.value.core turn.value.map (past (view_of pass.old)) × (turn.value.core.config ≡ (origin_of cell.now).core.config) }
+    requires stands { GridStands turn.value.core.value turn.value.map (past (view_of pass.old)) × (turn.value.core.value.config ≡ (origin_of cell.now).core.value.config) }
     requires may { PassMay (view_of pass.old) (Q.call question) }
-    requires made { E.entries ≡ made_by (origin_of cell.now).core.config (past (view_of pass.old)) (view_of pass.old).number (Q.call question) (Q.at question) }
+    requires made { E.entries ≡ made_by (origin_of cell.now).core.value.config (past (view_of pass.old)) (view_of pass.old).number (Q.call question) (Q.at question) }
     ensures own { cells.IsOf cell.now pass.new × IsFree pass.new }
-    ensures serves { IfOk result (λ a. ServesThere (origin_of cell.now).core.config (view_of pass.old) (Q.call question) (Q.at question) (Q.reply a) (view_of pass.new)) }
+    ensures serves { IfOk result (λ a. ServesThere (origin_of cell.now).core.value.config (view_of pass.old) (Q.call question) (Q.at question) (Q.reply a) (view_of pass.new)) }
     ensures back { IfOk result (λ a. Q.back question a) }
-    ensures lacks { IfErr result (λ q. (q ≡ question) × LacksThere (origin_of cell.now).core.config (view_of pass.old) (Q.lacks question) (view_of pass.new)) }
+    ensures lacks { IfErr result (λ q. (q ≡ question) × LacksThere (origin_of cell.now).core.value.config (view_of pass.old) (Q.lacks question) (view_of pass.new)) }
     ensures reader { KnowsChanges reader.new (past (view_of pass.new)) }
 {
     let caller = pass.number();
@@ -148,7 +148,7 @@ fn announce_there<Q: Announces, E: Made, R: Wait>(
         cell.leave::<Brand>(turn, pass);
         return Err(question);
     }
-    let answer = question.answer(&mut grid.core, caller);
+    let answer = question.answer(&mut *grid.core, caller);
     grid.map.publish(rt);
     grid.map.tell(reader);
     cell.leave::<E>(turn, pass);

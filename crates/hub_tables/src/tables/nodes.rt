@@ -8,7 +8,7 @@ ghost use Rattle.grid_types.specs.Overview.{view_of};
 ghost use Rattle.grid_types.specs.Permitted.{is_named};
 ghost use Rattle.grid_types.specs.Slots.{holder, is_listed, listed, slots_of};
 ghost use Rattle.reservation.specs.Table.{IsUseOf, holder_of};
-ghost use Rattle.hub_tables.specs.Tables.{Tells};
+ghost use Rattle.hub_tables.specs.Tables.{Keeps, NotesSigns, Tells};
 
 use crate::tables::HubTables;
 use grid_types::{HubConfig, Moment, NoMemory, NodeNo, Registration, SlotId, Text, View};
@@ -109,6 +109,16 @@ impl HubTables {
         ensures later { IfSome result (λ n. from ≤ n) }
     {
         first_drained(&self.nodes, &self.slots, from)
+    }
+
+    /// Notes since when all registered nodes were heard, and whether one drains, where `next_lapsed`, `next_silent` and
+    /// `next_drained` have to look at nodes, so that they look at them again only once one may be silent for too long or
+    /// drains. It takes no memory.
+    pub fn note_signs(&mut self, now: Moment, config: &HubConfig)
+        ensures kept { Keeps self.old self.new }
+        ensures noted { NotesSigns self.old self.new now.0 config.now }
+    {
+        self.nodes.note_quiet(now, config.lapse_ms, config.down_ms);
     }
 
     /// The listed nodes and the waiting requests, each by number, and whether a session could start now.

@@ -1,58 +1,31 @@
 //! The assignment that is made next, and what is remembered of a search that found none.
-ghost use Rattle.std.specs.Prelude.{◌≡◌, ◌<◌, None, option_map};
+ghost use Rattle.std.specs.Prelude.{◌≡◌, ◌+◌, ◌*◌, ◌≤◌, None, option_map};
+ghost use Rattle.grid_types.specs.History.{nodes as nodes_of};
+ghost use Rattle.dispatch_laws.specs.Kinds.{choices_in, kinds};
 ghost use Rattle.grid_types.specs.Choice.{chosen};
-ghost use Rattle.hub_walks.specs.Stand.{AllTell};
-ghost use Rattle.hub_walks.specs.First.{as_chosen, NoneBelow};
+ghost use Rattle.hub_walks.specs.First.{as_chosen, NoneBelow, groups_up};
 ghost use Rattle.hub_tables.specs.Tables.{Keeps, Tells};
 
 use crate::tables::HubTables;
 use dispatch_laws::nothing_stays;
 use grid_types::{Moment, ReqNo, chosen_is_first};
 use hub_walks::Assignment;
-use node_registry::NodeTable;
-use reservation::SlotTable;
-use session_queue::RequestTable;
 use slot_match::Steps;
-use std::marker::Brand;
-use std::sync::ledger::{Blank, Ledger};
-
-fn counted_choice<L: Ledger>(
-    nodes: &NodeTable,
-    slots: &SlotTable,
-    requests: &RequestTable,
-    first: ReqNo,
-    now: Moment,
-    blank: Blank,
-) -> Option<Assignment>
-    requires name { blank.name ≡ L.name }
-    requires parts { blank.parts ≡ L.parts }
-    requires some { 0 < L.parts }
-    ensures { AllTell nodes.now slots.now requests.now (λ H. NoneBelow H first now.0 → option_map as_chosen result ≡ chosen H now.0) }
-{
-    hub_walks::chosen(
-        nodes,
-        slots,
-        requests,
-        first,
-        now,
-        &mut Steps::<L>::new(blank),
-    )
-}
+use std::sync::ledger::Ledger;
 
 impl HubTables {
-    /// The assignment that is made next. It takes no memory.
-    pub fn next_assignment(&self, now: Moment) -> Option<Assignment>
-        ensures { Tells self.now (λ H. option_map as_chosen result ≡ chosen H now.0) }
+    /// The assignment that is made next. It takes no memory, and at most a comparison for each choice of each kind of
+    /// waiting requests with each group of nodes that are up.
+    pub fn next_assignment<L: Ledger>(
+        &self,
+        now: Moment,
+        steps: &mut Steps<L>,
+    ) -> Option<Assignment>
+        ensures answer { Tells self.now (λ H. option_map as_chosen result ≡ chosen H now.0) }
+        ensures cost { Tells self.now (λ H. steps.new ≤ steps.old + choices_in H (kinds H) * groups_up H (nodes_of H)) }
     {
         let first = self.first_to_search(now);
-        counted_choice::<Brand>(
-            &self.nodes,
-            &self.slots,
-            &self.requests,
-            first,
-            now,
-            Blank::new(1),
-        )
+        hub_walks::chosen(&self.nodes, &self.slots, &self.requests, first, now, steps)
     }
 
     /// The first request that a slot may fit at the moment.

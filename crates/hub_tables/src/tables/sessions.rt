@@ -4,7 +4,7 @@ ghost use Rattle.grid_types.specs.HubAnswers.{idle_bindings};
 ghost use Rattle.grid_types.specs.Lists.{least};
 ghost use Rattle.grid_types.specs.Sessions.{found_of, live};
 ghost use Rattle.session_map.specs.Table.{running};
-ghost use Rattle.hub_tables.specs.Tables.{HasRoomFor, Keeps, Tells};
+ghost use Rattle.hub_tables.specs.Tables.{HasRoomFor, Keeps, NotesUses, Tells};
 
 use crate::tables::HubTables;
 use grid_types::{Found, HubConfig, Moment, NoMemory, NodeAddress, ReqNo, SessionId, SlotId};
@@ -29,6 +29,15 @@ impl HubTables {
         ensures { Tells self.now (λ H. result ≡ least nat_lt (idle_bindings config.now H now.0)) }
     {
         self.sessions.least_idle(now, config.idle_ms)
+    }
+
+    /// Notes when the session that was used least of late was used, where `least_idle` has to look at the sessions, so that
+    /// it looks at them again only once that one may be idle. It takes no memory.
+    pub fn note_uses(&mut self, now: Moment, config: &HubConfig)
+        ensures kept { Keeps self.old self.new }
+        ensures noted { NotesUses self.old self.new now.0 config.now }
+    {
+        self.sessions.note_quiet(now, config.idle_ms);
     }
 
     /// Takes the room for a session ahead, so that `note_bound` finds it where no other call comes between.

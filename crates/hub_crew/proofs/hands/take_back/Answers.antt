@@ -1,9 +1,9 @@
-use Rattle.std.proofs.Common.{◌≤◌, All, refl, sym, subst, ◌∙◌, arith}
+use Rattle.std.proofs.Common.{rules, ◌≡◌, ◌≤◌, All, length, vec_len, refl, sym, subst, ◌∙◌, arith}
 use Rattle.hub_cell.specs.Passes.{knows}
-use Rattle.hub_crew.specs.Hands.{MayEnd, tool_of}
+use Rattle.hub_crew.specs.Hands.{MayEnd, left_by, tool_of}
 use Rattle.hub_crew.proofs.GoesLemmas.{goes_both, goes_joining}
 use Rattle.hub_crew.proofs.HireLemmas.{ended_more, rises_more, spends_more}
-use Rattle.hub_crew.proofs.ListLemmas.{all_end, all_front, given_back, one_more}
+use Rattle.hub_crew.proofs.ListLemmas.{all_end, all_front, given_back, none_left, none_more, one_more}
 use Rattle.hub_crew.proofs.hands.take_back.Goals as goal
 
 pub loop-preserved : goal.loop-preserved
@@ -28,6 +28,22 @@ loop-preserved g c =
       count = omega (arith, pushed, count);
       room = c.push_reserved.ensures.capacity ∙ i.room;
       spares = λ s most sum. subst (λ z. s ≤ z) (sym c.join.ensures.spares) (one_more s _ _ _ _ i.spares most sum);
+    }
+
+pub returns-clause-back : goal.returns-clause-back
+returns-clause-back g c =
+    let i = c.loop.invariant in
+    let done = c.loop-test.false in
+    let count = c.len-end.ensures in
+    let left = i.left in
+    let same : vec_len c.loop.hands ≡ length c.loop.hands.items = search rules in
+    let none : length c.loop.hands.items ≡ 0 = omega (arith, left, done, count, same) in
+    record {
+      goes = i.goes;
+      ended = none_left left_by _ _ c.loop.hands.items none i.ended;
+      spends_are = none_more (λ h. (knows h.pass).spent) c.loop.hands.items _ _ none i.spends_are;
+      spent_is = i.spent_is;
+      tools_are = none_left tool_of _ _ c.loop.hands.items none i.tools_are;
     }
 
 pub returns-clause-spares : goal.returns-clause-spares

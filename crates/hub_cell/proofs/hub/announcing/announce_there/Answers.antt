@@ -1,10 +1,11 @@
 use Rattle.std.proofs.Common.{sym, subst, ◌∙◌, append-nil}
 use Rattle.grid_types.specs.History.{history_of}
 use Rattle.hub_core.specs.CoreStands.{Stands}
+use Rattle.hub_core.specs.declared.hub.HubCore.{HubCore}
 use Rattle.turn_cell.specs.Cells.{view_of, origin_of}
 use Rattle.hub_cell.specs.Shared.{past}
 use Rattle.hub_cell.proofs.TurnLemmas.{own-made}
-use Rattle.hub_cell.proofs.ShownLemmas.{lent-grid, lent-config, map-on, none-made_shown, on-ok, on-err, announced-shown, announced-stands, announced-config, announced-there, told-after}
+use Rattle.hub_cell.proofs.ShownLemmas.{lent-grid, lent-config, lent-serves, map-on, none-made_shown, on-ok, on-err, announced-shown, announced-stands, announced-config, announced-there, told-after}
 use Rattle.hub_cell.proofs.hub.announcing.announce_there.Goals as goal
 
 pub leave-requires-clause-value : goal.leave-requires-clause-value
@@ -13,10 +14,10 @@ leave-requires-clause-value g c =
     let v = view_of c.args.pass.now in
     let q = c.args.question in
     let s = lent-grid c.value-grid.result.now c.args.turn.value (past v) c.value-grid.ensures.value c.requires.stands.0 in
-    let e = lent-config c.value-grid.result.now c.args.turn.value k.core.config c.value-grid.ensures.value c.requires.stands.1 in
+    let e = lent-config c.value-grid.result.now c.args.turn.value k.core.value.config c.value-grid.ensures.value c.requires.stands.1 in
     let none = on-err c.prepare.result (sym c.is_err.ensures.value ∙ c.if-is_err.true) c.prepare.ensures.none in (
       record {
-        core_stands = subst (λ L. Stands c.prepare.new.grid.core (history_of L)) (sym (append-nil v.seen)) (c.prepare.ensures.keeps.still (past v) s.core_stands);
+        core_stands = subst (λ L. Stands c.prepare.new.grid.core.value (history_of L)) (sym (append-nil v.seen)) (c.prepare.ensures.keeps.still (past v) s.core_stands);
         map_stands = map-on c.value-grid.result.now.map c.tell.new.self (past v) _ s.map_stands (c.tell.ensures.same.0 ∙ c.prepare.ensures.shown) (c.tell.ensures.same.1 ∙ (none ∙ sym s.map_stands.none_pending)) (none-made_shown v.seen);
       },
       c.prepare.ensures.keeps.same_config ∙ e,
@@ -28,19 +29,19 @@ leave-requires-2-clause-value g c =
     let v = view_of c.args.pass.now in
     let q = c.args.question in
     let s = lent-grid c.value-grid.result.now c.args.turn.value (past v) c.value-grid.ensures.value c.requires.stands.0 in
-    let e = lent-config c.value-grid.result.now c.args.turn.value k.core.config c.value-grid.ensures.value c.requires.stands.1 in
+    let e = lent-config c.value-grid.result.now c.args.turn.value k.core.value.config c.value-grid.ensures.value c.requires.stands.1 in
     let fine = sym c.is_err.ensures.value ∙ c.if-is_err.false in
     let items = on-ok c.prepare.result fine c.prepare.ensures.items in
     let ready = on-ok c.prepare.result fine c.prepare.ensures.ready in (
-      announced-stands k.core.config c.value-grid.result.now c.prepare.new.grid c.answer-answer.new.core v c.number-caller.result (g.Q.Announces.call q) (g.Q.Announces.at q) (g.Q.Announces.reply c.answer-answer.result) (g.Q.Announces.ready q c.prepare.new.grid.core) s e
-          c.number-caller.ensures c.requires.may c.prepare.ensures.keeps c.prepare.ensures.shown items ready c.answer-answer.ensures.serves c.answer-answer.ensures.there g.E.Made.entries c.requires.made c.publish.new.self c.tell-2.new.self c.publish.ensures.published c.publish.ensures.pending c.tell-2.ensures.same.0 c.tell-2.ensures.same.1,
-      announced-config k.core.config c.value-grid.result.now c.prepare.new.grid c.answer-answer.new.core v c.number-caller.result (g.Q.Announces.call q) (g.Q.Announces.at q) (g.Q.Announces.reply c.answer-answer.result) (g.Q.Announces.ready q c.prepare.new.grid.core) s e
-          c.number-caller.ensures c.requires.may c.prepare.ensures.keeps c.prepare.ensures.shown items ready c.answer-answer.ensures.serves c.answer-answer.ensures.there g.E.Made.entries c.requires.made,
+      announced-stands k.core.value.config c.value-grid.result.now c.prepare.new.grid c.answer-answer.new.core v c.number-caller.result (g.Q.Announces.call q) (g.Q.Announces.at q) (g.Q.Announces.reply c.answer-answer.result) (g.Q.Announces.ready q c.prepare.new.grid.core.value) s e
+          c.number-caller.ensures c.requires.may c.prepare.ensures.keeps c.prepare.ensures.shown items ready (lent-serves c.deref_mut.result.now c.prepare.new.grid.core.value c.answer-answer.new.core c.number-caller.result (g.Q.Announces.call q) (g.Q.Announces.at q) (g.Q.Announces.reply c.answer-answer.result) c.deref_mut.ensures.value c.answer-answer.ensures.serves) (λ ready. c.answer-answer.ensures.there (subst (λ (z : HubCore). g.Q.Announces.ready q z) (sym c.deref_mut.ensures.value) ready)) g.E.Made.entries c.requires.made c.publish.new.self c.tell-2.new.self c.publish.ensures.published c.publish.ensures.pending c.tell-2.ensures.same.0 c.tell-2.ensures.same.1,
+      announced-config k.core.value.config c.value-grid.result.now c.prepare.new.grid c.answer-answer.new.core v c.number-caller.result (g.Q.Announces.call q) (g.Q.Announces.at q) (g.Q.Announces.reply c.answer-answer.result) (g.Q.Announces.ready q c.prepare.new.grid.core.value) s e
+          c.number-caller.ensures c.requires.may c.prepare.ensures.keeps c.prepare.ensures.shown items ready (lent-serves c.deref_mut.result.now c.prepare.new.grid.core.value c.answer-answer.new.core c.number-caller.result (g.Q.Announces.call q) (g.Q.Announces.at q) (g.Q.Announces.reply c.answer-answer.result) c.deref_mut.ensures.value c.answer-answer.ensures.serves) (λ ready. c.answer-answer.ensures.there (subst (λ (z : HubCore). g.Q.Announces.ready q z) (sym c.deref_mut.ensures.value) ready)) g.E.Made.entries c.requires.made,
     )
 
 pub leave-requires-2-clause-entries : goal.leave-requires-2-clause-entries
 leave-requires-2-clause-entries g c =
-    own-made (origin_of c.args.cell.now).core.config (past (view_of c.args.pass.now)) (view_of c.args.pass.now).number (g.Q.Announces.call c.args.question) (g.Q.Announces.at c.args.question) g.E.Made.entries c.requires.made
+    own-made (origin_of c.args.cell.now).core.value.config (past (view_of c.args.pass.now)) (view_of c.args.pass.now).number (g.Q.Announces.call c.args.question) (g.Q.Announces.at c.args.question) g.E.Made.entries c.requires.made
 
 pub returns-clause-serves : goal.returns-clause-serves
 returns-clause-serves g c =
@@ -48,12 +49,12 @@ returns-clause-serves g c =
     let v = view_of c.args.pass.now in
     let q = c.args.question in
     let s = lent-grid c.value-grid.result.now c.args.turn.value (past v) c.value-grid.ensures.value c.requires.stands.0 in
-    let e = lent-config c.value-grid.result.now c.args.turn.value k.core.config c.value-grid.ensures.value c.requires.stands.1 in
+    let e = lent-config c.value-grid.result.now c.args.turn.value k.core.value.config c.value-grid.ensures.value c.requires.stands.1 in
     let fine = sym c.is_err.ensures.value ∙ c.if-is_err.false in
     let items = on-ok c.prepare.result fine c.prepare.ensures.items in
     let ready = on-ok c.prepare.result fine c.prepare.ensures.ready in
-    announced-there k.core.config c.value-grid.result.now c.prepare.new.grid c.answer-answer.new.core v c.number-caller.result (g.Q.Announces.call q) (g.Q.Announces.at q) (g.Q.Announces.reply c.answer-answer.result) (g.Q.Announces.ready q c.prepare.new.grid.core) s e
-    c.number-caller.ensures c.requires.may c.prepare.ensures.keeps c.prepare.ensures.shown items ready c.answer-answer.ensures.serves c.answer-answer.ensures.there g.E.Made.entries c.requires.made (view_of c.leave-2.new.pass) c.leave-2.ensures.view.0 c.leave-2.ensures.view.1
+    announced-there k.core.value.config c.value-grid.result.now c.prepare.new.grid c.answer-answer.new.core v c.number-caller.result (g.Q.Announces.call q) (g.Q.Announces.at q) (g.Q.Announces.reply c.answer-answer.result) (g.Q.Announces.ready q c.prepare.new.grid.core.value) s e
+    c.number-caller.ensures c.requires.may c.prepare.ensures.keeps c.prepare.ensures.shown items ready (lent-serves c.deref_mut.result.now c.prepare.new.grid.core.value c.answer-answer.new.core c.number-caller.result (g.Q.Announces.call q) (g.Q.Announces.at q) (g.Q.Announces.reply c.answer-answer.result) c.deref_mut.ensures.value c.answer-answer.ensures.serves) (λ ready. c.answer-answer.ensures.there (subst (λ (z : HubCore). g.Q.Announces.ready q z) (sym c.deref_mut.ensures.value) ready)) g.E.Made.entries c.requires.made (view_of c.leave-2.new.pass) c.leave-2.ensures.view.0 c.leave-2.ensures.view.1
 
 pub returns-clause-reader : goal.returns-clause-reader
 returns-clause-reader g c =
@@ -61,10 +62,10 @@ returns-clause-reader g c =
     let v = view_of c.args.pass.now in
     let q = c.args.question in
     let s = lent-grid c.value-grid.result.now c.args.turn.value (past v) c.value-grid.ensures.value c.requires.stands.0 in
-    let e = lent-config c.value-grid.result.now c.args.turn.value k.core.config c.value-grid.ensures.value c.requires.stands.1 in
+    let e = lent-config c.value-grid.result.now c.args.turn.value k.core.value.config c.value-grid.ensures.value c.requires.stands.1 in
     let fine = sym c.is_err.ensures.value ∙ c.if-is_err.false in
     let items = on-ok c.prepare.result fine c.prepare.ensures.items in
     let ready = on-ok c.prepare.result fine c.prepare.ensures.ready in
     told-after c.tell-2.new.reader c.publish.new.self v (view_of c.leave-2.new.pass) g.E.Made.entries c.tell-2.ensures.told
-    (announced-shown k.core.config c.value-grid.result.now c.prepare.new.grid c.answer-answer.new.core v c.number-caller.result (g.Q.Announces.call q) (g.Q.Announces.at q) (g.Q.Announces.reply c.answer-answer.result) (g.Q.Announces.ready q c.prepare.new.grid.core) s e
-    c.number-caller.ensures c.requires.may c.prepare.ensures.keeps c.prepare.ensures.shown items ready c.answer-answer.ensures.serves c.answer-answer.ensures.there g.E.Made.entries c.requires.made c.publish.new.self c.publish.ensures.published) c.leave-2.ensures.view.0
+    (announced-shown k.core.value.config c.value-grid.result.now c.prepare.new.grid c.answer-answer.new.core v c.number-caller.result (g.Q.Announces.call q) (g.Q.Announces.at q) (g.Q.Announces.reply c.answer-answer.result) (g.Q.Announces.ready q c.prepare.new.grid.core.value) s e
+    c.number-caller.ensures c.requires.may c.prepare.ensures.keeps c.prepare.ensures.shown items ready (lent-serves c.deref_mut.result.now c.prepare.new.grid.core.value c.answer-answer.new.core c.number-caller.result (g.Q.Announces.call q) (g.Q.Announces.at q) (g.Q.Announces.reply c.answer-answer.result) c.deref_mut.ensures.value c.answer-answer.ensures.serves) (λ ready. c.answer-answer.ensures.there (subst (λ (z : HubCore). g.Q.Announces.ready q z) (sym c.deref_mut.ensures.value) ready)) g.E.Made.entries c.requires.made c.publish.new.self c.publish.ensures.published) c.leave-2.ensures.view.0

@@ -5,6 +5,7 @@ use Rattle.indexmap.proofs.CallerLemmas.{insert_entry-new}
 use Rattle.node_registry.proofs.Keys.{keys-last}
 use Rattle.node_registry.proofs.Rows.{new_row}
 use Rattle.node_registry.proofs.Steps.{stands-Registered}
+use Rattle.node_registry.proofs.QuietLemmas.{earlier-before, earlier-sign, new-within}
 use Rattle.node_registry.proofs.node_table.NodeTable.registered.Goals as goal
 
 pub returns-clause-stands : goal.returns-clause-stands
@@ -15,7 +16,9 @@ returns-clause-stands c = λ k. record {
       let same = c.in_ok-reserve.ensures.entries in
       let copy = c.in_ok-clone.ensures.cases in
       stands-Registered c' H k c.args.node c.args.registration.now c.args.at _ _ s l
-      (λ n. updates.0 n ∙ (rw copy (ap (λ es. cond (nat_eq c.args.node n) (Some (new_row c.args.registration.now c.args.at)) (lookup (nat_eq n) es)) same)))
+      (λ n. updates.0 n ∙ (rw copy (ap (λ es. cond (nat_eq c.args.node n) (Some (new_row c.args.registration.now c.args.at 0)) (lookup (nat_eq n) es)) same)))
       (λ absent. ap keys_of (entries ∙ insert_entry-new nat_eq c.reserve.new.self c.args.node _ (ap (lookup (nat_eq c.args.node)) same ∙ absent)) ∙ keys-last _ _ _ ∙ ap (λ es. keys_of es ++ c.args.node ∷ []) same)
-      (λ n. refl) c.insert.ensures.unique s.turns_differ;
+      refl c.insert.ensures.unique
+      (record { signs = earlier-before _ _ _ c.earlier-self.ensures; heard = earlier-before _ _ _ c.earlier-self-2.ensures; drains = λ h. h })
+      (new-within c.args.registration.now c.args.at 0 (earlier-sign _ _ _ c.earlier-self.ensures) (earlier-sign _ _ _ c.earlier-self-2.ensures));
 }

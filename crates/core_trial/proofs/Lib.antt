@@ -1,0 +1,3 @@
+mod ListLemmas
+mod PlainLemmas
+mod CostLemmas

@@ -1,0 +1,6 @@
+use Rattle.std.proofs.Common.{rules, tests}
+use Rattle.node_registry.proofs.QuietLemmas.{none-unheard}
+use Rattle.node_registry.proofs.node_table.NodeTable.is_heard.Goals as goal
+
+pub returns-clause-sure : goal.returns-clause-sure
+returns-clause-sure c = record { of = λ c' H s l yes. none-unheard c' H c.args.self.now c.args.at.0 c.args.silent_ms s l (search (rules, tests)) }
