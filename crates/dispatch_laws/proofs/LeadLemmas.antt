@@ -3,10 +3,9 @@ use Rattle.std.proofs.Common.{◌≡◌, ℕ, ◌+◌, ◌≤◌, Bool, true, fa
 use Rattle.std.specs.Prelude.{nat_eq}
 use Rattle.std.specs.List.{list_any, list_all}
 use Rattle.std.specs.Cmp.{IsEquivalence}
-use Rattle.grid_types.specs.Lists.{total}
+use Rattle.grid_types.specs.Lists.{total, has}
 use Rattle.grid_types.specs.Requests.{choices_of, waiting_requests}
-use Rattle.grid_types.proofs.ListLemmas.{and_left, and_right}
-use Rattle.grid_types.proofs.LeastLemmas.{has}
+use Rattle.grid_types.specs.HistoryLaws.{Known, laws}
 use Rattle.dispatch_laws.specs.Kinds.{is_alike, firsts, kinds}
 use Rattle.dispatch_laws.specs.Leads.{are_apart, LeadsAreFew}
 use Rattle.dispatch_laws.proofs.KindLemmas.{kinds-divide, alike-choices, waiting-listed}
@@ -53,12 +52,12 @@ has-later : (q x : ℕ) (xs : List ℕ) → has q xs ≡ true → has q (x ∷ x
 has-later q x xs h = grind arith
 
 -- what is apart weighs no more than what covers it
-few : (E : ℕ → ℕ → Bool) → IsEquivalence E → (g : ℕ → ℕ) (ls fs : List ℕ) → ((y z : ℕ) → E y z ≡ true → g y ≡ g z) → are_apart E ls ≡ true →
+few : Known → (E : ℕ → ℕ → Bool) → IsEquivalence E → (g : ℕ → ℕ) (ls fs : List ℕ) → ((y z : ℕ) → E y z ≡ true → g y ≡ g z) → are_apart E ls ≡ true →
     ((l : ℕ) → has l ls ≡ true → list_any (E l) fs ≡ true) → total g ls ≤ total g fs
-few E eq g [] fs fair a m = omega arith
-few E eq g (l ∷ ls) fs fair a m =
-    let rest : total (without E l g) ls ≤ total (without E l g) fs = few E eq (without E l g) ls fs (without-fair E eq l g fair) (and_right _ _ a) (λ q h. m q (has-later q l ls h)) in
-    let same : total g ls ≡ total (without E l g) ls = unlike E l g ls (and_left _ _ a) in
+few proved E eq g [] fs fair a m = omega arith
+few proved E eq g (l ∷ ls) fs fair a m =
+    let rest : total (without E l g) ls ≤ total (without E l g) fs = few proved E eq (without E l g) ls fs (without-fair E eq l g fair) ((laws proved).and_right _ _ a) (λ q h. m q (has-later q l ls h)) in
+    let same : total g ls ≡ total (without E l g) ls = unlike E l g ls ((laws proved).and_left _ _ a) in
     let one : g l + total (without E l g) fs ≤ total g fs = one-part E l g fs fair (m l (has-here l ls)) in
     omega arith
 
@@ -87,7 +86,7 @@ any-first E eq (x ∷ xs) r h = by_kind (E x r) refl (nat_eq r x) refl h (any-fi
         or-true true = refl
         or-true false = refl
 
-pub leads-are-few : LeadsAreFew
-leads-are-few H ls w =
-    few (is_alike H) (kinds-divide H) (λ r. length (choices_of H r)) ls (kinds H) (λ q r h. ap length (alike-choices H q r h)) w.apart
-    (λ l h. any-first (is_alike H) (kinds-divide H) (waiting_requests H) l (waiting-listed H l (w.counted l h)))
+pub leads-are-few : Known → LeadsAreFew
+leads-are-few proved H ls w =
+    few proved (is_alike H) (kinds-divide proved H) (λ r. length (choices_of H r)) ls (kinds H) (λ q r h. ap length (alike-choices proved H q r h)) w.apart
+    (λ l h. any-first (is_alike H) (kinds-divide proved H) (waiting_requests H) l (waiting-listed proved H l (w.counted l h)))

@@ -6,7 +6,8 @@ use Rattle.grid_types.specs.declared.entry.Change.{Change}
 use Rattle.grid_types.specs.declared.entry.Change.TheVariants as change
 use Rattle.grid_types.specs.Bindings.{bindings, bound_of}
 use Rattle.grid_types.proofs.SessionLemmas.{entry}
-use Rattle.grid_types.proofs.LeastLemmas.{has, has-last}
+use Rattle.grid_types.specs.Lists.{has}
+use Rattle.grid_types.proofs.LeastLemmas.{has-last}
 
 or_true : (v : Bool) → (v || true) ≡ true
 or_true true = refl

@@ -26,7 +26,7 @@ use Rattle.grid_types.specs.Matching.{meets}
 use Rattle.grid_types.specs.Legal.{legal}
 use Rattle.grid_types.specs.Tokens.{Closing, is_good_ticket, is_good_reservation, is_good_closing}
 use Rattle.grid_types.specs.Calls.{Call, Reply}
-use Rattle.grid_types.specs.HubAnswers.{says, makes, moment, register_by, drained, enqueued, polled, polled_open, reserves, dispatched, bind_kept, not_kept, bound, failed, at_binding, is_binding, closes, expired_by, idle_bindings, hub, answer, after_call}
+use Rattle.grid_types.specs.HubAnswers.{says, makes, moment, register_by, drained, enqueued, polled, polled_open, reserves, dispatched, bind_kept, not_kept, bound, bound_by, failed, at_binding, is_binding, closes, expired_by, idle_bindings, hub, answer, after_call}
 use Rattle.grid_types.specs.Laws.{is_good_call}
 use Rattle.grid_types.proofs.ListLemmas.{least-passes, least-all, all-filter, all-passed, and_left, and_right}
 use Rattle.grid_types.proofs.PermittedLemmas.{slot_eq-same, held-is}
@@ -144,9 +144,8 @@ bind-legal c H k r s x caps m l t good =
       where
         by_node : (reg lives fit : Bool) → is_registered H s.node ≡ reg → is_live_session H x ≡ lives → meets (wanted_of H r s) caps ≡ fit → bool_eq (is_last H r s) (is_last H r s) ≡ true →
             (is_registered H s.node ≡ true → is_live_session H x ≡ false → meets (wanted_of H r s) caps ≡ true → StaysLegal c H k (bind_kept H k r s x caps m)) →
-            StaysLegal c H k (cond (not (is_registered H s.node)) (not_kept H k r s x m why.NodeGone Reply.node_gone)
-            (cond (is_live_session H x) (not_kept H k r s x m why.Duplicate Reply.duplicate)
-            (cond (not (meets (wanted_of H r s) caps)) (not_kept H k r s x m why.Mismatch Reply.mismatch) (bind_kept H k r s x caps m))))
+            StaysLegal c H k (bound_by H k r s x caps m (cond (not (is_registered H s.node)) (Some why.NodeGone)
+            (cond (is_live_session H x) (Some why.Duplicate) (cond (not (meets (wanted_of H r s) caps)) (Some why.Mismatch) None))))
         by_node false lives fit a b d own kept = grind arith
         by_node true true fit a b d own kept = grind arith
         by_node true false false a b d own kept = grind arith

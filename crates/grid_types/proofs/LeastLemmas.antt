@@ -1,12 +1,9 @@
 -- The least of a list depends on its members alone.
-use Rattle.std.proofs.Common.{◌≡◌, ℕ, ◌≤◌, Bool, true, false, ◌&&◌, ◌||◌, List, [], ◌∷◌, ◌++◌, filter, min, fold, refl, sym, ap, ◌∙◌, arith}
+use Rattle.std.proofs.Common.{◌≡◌, ℕ, ◌≤◌, Bool, true, false, ◌&&◌, ◌||◌, List, [], ◌∷◌, ◌++◌, filter, min, fold, refl, sym, ap, subst, ◌∙◌, arith}
 use Rattle.std.specs.Prelude.{Option, None, Some, nat_eq, nat_lt, is_some}
-use Rattle.std.specs.List.{list_any, reduce}
-use Rattle.grid_types.specs.Lists.{least, better}
-
--- the number is in the list
-abbrev pub has : ℕ → List ℕ → Bool
-has b xs = list_any (nat_eq b) xs
+use Rattle.std.specs.List.{list_any, list_all, reduce}
+use Rattle.grid_types.specs.Lists.{least, better, has}
+use Rattle.grid_types.proofs.ListLemmas.{and_left, and_right}
 
 fold-least : (xs : List ℕ) (a : ℕ) → Some (fold min a xs) ≡ better nat_lt a (least nat_lt xs)
 fold-least [] a = refl
@@ -73,3 +70,21 @@ has-filter q b (x ∷ xs) = elim (nat_eq b x) as (λ v. nat_eq b x ≡ v → has
 pub has-last : (b r : ℕ) (xs : List ℕ) → has b (xs ++ r ∷ []) ≡ (has b xs || nat_eq b r)
 has-last b r [] = grind arith
 has-last b r (x ∷ xs) = grind (arith, has-last b r xs)
+
+pub all-at : (p : ℕ → Bool) (n : ℕ) (xs : List ℕ) → list_all p xs ≡ true → has n xs ≡ true → p n ≡ true
+all-at p n [] h t = absurd (cc)
+all-at p n (x ∷ xs) h t = by_number (nat_eq n x) refl t (all-at p n xs (and_right _ _ h))
+  where
+    by_number : (v : Bool) → nat_eq n x ≡ v → (v || has n xs) ≡ true → (has n xs ≡ true → p n ≡ true) → p n ≡ true
+    by_number true e t rest = let same : x ≡ n = grind arith in subst (λ (z : ℕ). p z ≡ true) same (and_left _ _ h)
+    by_number false e t rest = rest t
+
+pub all-of : (p : ℕ → Bool) (xs : List ℕ) → ((n : ℕ) → has n xs ≡ true → p n ≡ true) → list_all p xs ≡ true
+all-of p [] h = refl
+all-of p (x ∷ xs) h = rw (h x (has-here x xs), all-of p xs (λ n t. h n (has-later n x xs t))) refl
+  where
+    has-here : (x : ℕ) (xs : List ℕ) → has x (x ∷ xs) ≡ true
+    has-here x xs = grind arith
+
+    has-later : (n x : ℕ) (xs : List ℕ) → has n xs ≡ true → has n (x ∷ xs) ≡ true
+    has-later n x xs t = grind arith

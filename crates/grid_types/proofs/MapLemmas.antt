@@ -15,7 +15,7 @@ use Rattle.grid_types.specs.Nodes.{stereotypes_of, address_of}
 use Rattle.grid_types.specs.Bindings.{Running, bound_of, running_told}
 use Rattle.grid_types.specs.Slots.{Holder, free, held, busy, closing, holder, slot_at, slots_of}
 use Rattle.grid_types.specs.Requests.{is_settled, is_taken, is_reserved, asked_of, outcome_of}
-use Rattle.grid_types.specs.Sessions.{IsRunning, live, last_bound, is_of_session}
+use Rattle.grid_types.specs.Sessions.{is_at_node, IsRunning, live, last_bound, is_of_session}
 use Rattle.grid_types.specs.LookupMap.{Item, removal, find, removal_of, session_in, sessions_on, published, changes}
 use Rattle.grid_types.specs.Legal.{legal}
 use Rattle.grid_types.specs.Permitted.{permitted}
@@ -136,11 +136,6 @@ live-Ended H k b cause at s = by_last (last_bound H s) refl
     by_last : (o : Option Running) → last_bound H s ≡ o → live (entry k (change.Ended b cause at) ∷ H) s ≡ cond (is_binding b (live H s)) None (live H s)
     by_last None e = grind arith
     by_last (Some x) e = grind arith
-
--- the session runs on the node
-abbrev pub is_at_node : ℕ → Option Running → Bool
-is_at_node n None = false
-is_at_node n (Some x) = nat_eq x.slot.node n
 
 pub live-Lapsed : (c : HubConfig) (H : List Entry) (k n : ℕ) (at : Moment) (s : List ℕ) → legal c H ≡ true →
     live (entry k (change.Lapsed n at) ∷ H) s ≡ cond (is_at_node n (live H s)) None (live H s)

@@ -15,7 +15,8 @@ use Rattle.grid_types.specs.Requests.{place, is_waiting, is_unsettled, deadline_
 use Rattle.grid_types.specs.Permitted.{permitted}
 use Rattle.grid_types.specs.Legal.{legal}
 use Rattle.grid_types.specs.HubAnswers.{Answer, moment, cleared, lapses, lapsed_nodes, suspicions, silent_nodes, overdue_requests, time_outs, drained_nodes, removals, swept}
-use Rattle.grid_types.proofs.ListLemmas.{or_left, or_right, all-filter, all-passed, and_left, and_right, is_distinct, distinct-filter}
+use Rattle.grid_types.specs.Lists.{is_distinct}
+use Rattle.grid_types.proofs.ListLemmas.{or_left, or_right, all-filter, all-passed, and_left, and_right, distinct-filter}
 use Rattle.grid_types.proofs.SessionLemmas.{entry}
 use Rattle.grid_types.proofs.HeldLemmas.{nodes-distinct, requests-distinct}
 

@@ -15,28 +15,36 @@ pub record Running : Type 0 where
   pub address : List ℕ
   pub binding : ℕ
 
--- what a Bound tells, with the entries before it
+-- where a Bound after the history makes its session run
 abbrev pub running_told : List Entry → Change → Option Running
-running_told H (change.Bound r s x cs at) = Some (record { session = x; slot = s; address = address_of H s.node; binding = r })
-running_told H c = None
+running_told history (change.Bound request slot session capabilities at) =
+    Some (record {
+      session = session;
+      slot = slot;
+      address = address_of history slot.node;
+      binding = request;
+    })
+running_told history other = None
 
 -- the number of a binding that is made
 abbrev pub binding_told : Change → Option ℕ
-binding_told (change.Bound r s x cs at) = Some r
-binding_told c = None
+binding_told (change.Bound request slot session capabilities at) = Some request
+binding_told other = None
 
--- the bindings, in order
+-- the bindings that were made, in order
 abbrev pub bindings : List Entry → List ℕ
 bindings = all_told binding_told
 
--- it is this binding's
+-- it runs by this binding
 abbrev pub is_of_binding : ℕ → Running → Bool
-is_of_binding b r = nat_eq r.binding b
+is_of_binding binding running = nat_eq running.binding binding
 
--- what a binding's Bound says
+-- where a binding's Bound makes its session run
 abbrev pub bound_of : List Entry → ℕ → Option Running
-bound_of H b = last_told (λ before e. kept (is_of_binding b) (running_told before e.change)) H
+bound_of history binding =
+    last_told (λ before entry. kept (is_of_binding binding) (running_told before entry.change))
+    history
 
--- the slot that it names
+-- the slot that a binding's Bound names
 abbrev pub bound_slot : List Entry → ℕ → Option SlotId
-bound_slot H b = option_map (λ r. r.slot) (bound_of H b)
+bound_slot history binding = option_map (λ running. running.slot) (bound_of history binding)

@@ -1,5 +1,5 @@
--- What the hub of one thread does at a call: the changes that it makes, in order, and its Reply.
-use Rattle.std.specs.Prelude.{ℕ, ◌+◌, ◌-◌, max, Bool, false, cond, not, ◌&&◌, ◌||◌, nat_eq, nat_lt, nat_le, List, [], ◌∷◌, ◌++◌, map, length, filter, find, Option, None, Some, ◌^◌}
+-- What the hub of one thread does at a call: the changes that it makes, in order, and its reply.
+use Rattle.std.specs.Prelude.{ℕ, ◌+◌, ◌-◌, max, Bool, false, if◌then◌else◌, not, ◌&&◌, ◌||◌, nat_eq, nat_lt, nat_le, List, [], ◌∷◌, ◌++◌, map, length, filter, find, Option, None, Some, ◌^◌}
 use Rattle.grid_types.specs.declared.entry.Entry.{Entry}
 use Rattle.grid_types.specs.declared.entry.Change.{Change}
 use Rattle.grid_types.specs.declared.entry.Change.TheVariants as change
@@ -8,6 +8,7 @@ use Rattle.grid_types.specs.declared.entry.FailWhy.TheVariants as why
 use Rattle.grid_types.specs.declared.entry.EndCause.TheVariants as cause
 use Rattle.grid_types.specs.declared.entry.Outcome.{Outcome}
 use Rattle.grid_types.specs.declared.entry.Outcome.TheVariants as outcome
+use Rattle.grid_types.specs.declared.limits.TheConstants.{MOST_NODES}
 use Rattle.grid_types.specs.declared.names.Moment.{Moment}
 use Rattle.grid_types.specs.declared.names.SlotId.{SlotId}
 use Rattle.grid_types.specs.declared.capabilities.Cap.{Cap}
@@ -35,210 +36,298 @@ pub record Answer : Type 0 where
 
 -- a call that changes nothing
 abbrev pub says : Reply → Answer
-says r = record { changes = []; reply = r }
+says reply = record { changes = []; reply = reply }
 
 -- a call that makes one change
 abbrev pub makes : Change → Reply → Answer
-makes c r = record { changes = c ∷ []; reply = r }
+makes made reply = record { changes = made ∷ []; reply = reply }
 
 -- a number of milliseconds as a moment
 abbrev pub moment : ℕ → Moment
-moment m = record { 0 = m }
+moment milliseconds = record { 0 = milliseconds }
 
--- register: the name, then the room, then the numbers
+-- register, where a node of that name may be registered already: the name, then the room, then the
+-- numbers
 abbrev pub register_by : HubConfig → List Entry → Registration → ℕ → Option ℕ → Answer
-register_by c H r m (Some n) = says (Reply.name_taken n)
-register_by c H r m None =
-    cond (nat_le 1_024 (length (listed H))) (says (Reply.nodes_full 1_024))
-    (cond (nat_le (2 ^ 32 - 1) (next_node c H)) (says Reply.numbers_spent)
-    (makes (change.Registered (next_node c H) r (moment m)) (Reply.registered (next_node c H))))
+register_by config history registration now (Some node) = says (Reply.name_taken node)
+register_by config history registration now None =
+    if nat_le MOST_NODES (length (listed history)) then says (Reply.nodes_full MOST_NODES)
+    else if nat_le (2 ^ 32 - 1) (next_node config history) then says Reply.numbers_spent
+    else
+    makes (change.Registered (next_node config history) registration (moment now))
+    (Reply.registered (next_node config history))
 
--- a change of a registered node
+-- the change and the reply, where the node is registered
 abbrev pub at_registered : List Entry → ℕ → Change → Reply → Answer
-at_registered H n c r = cond (is_registered H n) (makes c r) (says Reply.no_node)
+at_registered history node made reply =
+    if is_registered history node then makes made reply else says Reply.no_node
 
 -- drain: a node that was drained makes no entry
 abbrev pub drained : List Entry → ℕ → ℕ → Answer
-drained H n m =
-    cond (is_base_up H n) (makes (change.Draining n (moment m)) Reply.draining)
-    (cond (is_draining H n) (says Reply.draining) (says Reply.no_node))
+drained history node now =
+    if is_base_up history node then makes (change.Draining node (moment now)) Reply.draining
+    else if is_draining history node then says Reply.draining
+    else says Reply.no_node
 
 -- enqueue: the numbers, then the support, then the room
 abbrev pub enqueued : HubConfig → List Entry → List (List Cap) → ℕ → Answer
-enqueued c H choices m =
-    cond (nat_le (2 ^ 64 - 1) (next_request c H)) (says Reply.numbers_spent)
-    (cond (c.reject_unsupported && not (is_supported H choices)) (says Reply.unsupported)
-    (cond (nat_le c.queue_requests (length (unsettled H)) || nat_lt most_bytes (unsettled_bytes H + request_bytes choices))
-    (says (Reply.queue_full (length (unsettled H)) (unsettled_bytes H)))
-    (makes (change.Queued (next_request c H) choices (moment (deadline_at c choices m)) (moment m))
-    (Reply.queued (record { request = next_request c H; deadline = deadline_at c choices m })))))
+enqueued config history choices now =
+    if nat_le (2 ^ 64 - 1) (next_request config history) then says Reply.numbers_spent
+    else if config.reject_unsupported && not (is_supported history choices) then
+    says Reply.unsupported
+    else if
+    nat_le config.queue_requests (length (unsettled history))
+    || nat_lt most_bytes (unsettled_bytes history + request_bytes choices)
+    then says (Reply.queue_full (length (unsettled history)) (unsettled_bytes history))
+    else
+    makes
+    (change.Queued (next_request config history) choices (moment (deadline_at config choices now))
+    (moment now))
+    (Reply.queued (record {
+      request = next_request config history;
+      deadline = deadline_at config choices now;
+    }))
 
--- the reservation of an assignment, and what it tells
+-- the reservation of an assignment
 abbrev pub reserves : ℕ → Assignment → Change
-reserves m a = change.Reserved a.request a.slot a.choice (moment m)
+reserves now assignment =
+    change.Reserved assignment.request assignment.slot assignment.choice (moment now)
 
 -- what the token of a reservation tells, once it is made
 abbrev pub reserved : List Entry → ℕ → ℕ → Assignment → Reservation
-reserved H caller m a = reservation_of (after H caller (reserves m a ∷ [])) a.request a.slot
+reserved history caller now assignment =
+    reservation_of (after history caller (reserves now assignment ∷ [])) assignment.request
+    assignment.slot
 
--- poll of a request that is not settled and not overdue
+-- poll of a request that is not settled and not overdue, by the assignment that is chosen
 abbrev pub polled_open : List Entry → ℕ → ℕ → ℕ → Option Assignment → Answer
-polled_open H caller r m None = says (Reply.not_yet (ticket_of H r))
-polled_open H caller r m (Some a) =
-    cond (nat_eq a.request r) (makes (reserves m a) (Reply.yours (ticket_of H r) (reserved H caller m a)))
-    (says (Reply.not_yet (ticket_of H r)))
+polled_open history caller request now None = says (Reply.not_yet (ticket_of history request))
+polled_open history caller request now (Some assignment) =
+    if nat_eq assignment.request request then
+    makes (reserves now assignment)
+    (Reply.yours (ticket_of history request) (reserved history caller now assignment))
+    else says (Reply.not_yet (ticket_of history request))
 
--- poll: the outcome, then the deadline, then the chosen assignment
+-- poll, by the request's outcome: that, then the deadline, then the chosen assignment
 abbrev pub polled : List Entry → ℕ → ℕ → ℕ → Option Outcome → Answer
-polled H caller r m (Some o) = makes (change.Taken r (moment m)) (Reply.settled o)
-polled H caller r m None =
-    cond (nat_le (deadline_of H r) m)
-    (record {
-      changes = change.TimedOut r (moment m) ∷ change.Taken r (moment m) ∷ [];
-      reply = Reply.settled (outcome.TimedOut (moment (deadline_of H r)));
-    })
-    (polled_open H caller r m (chosen H m))
+polled history caller request now (Some result) =
+    makes (change.Taken request (moment now)) (Reply.settled result)
+polled history caller request now None =
+    if nat_le (deadline_of history request) now then
+    record {
+      changes = change.TimedOut request (moment now) ∷ change.Taken request (moment now) ∷ [];
+      reply = Reply.settled (outcome.TimedOut (moment (deadline_of history request)));
+    }
+    else polled_open history caller request now (chosen history now)
 
--- dispatch: the chosen assignment
+-- dispatch, by the assignment that is chosen
 abbrev pub dispatched : List Entry → ℕ → ℕ → Option Assignment → Answer
-dispatched H caller m None = says Reply.nothing
-dispatched H caller m (Some a) = makes (reserves m a) (Reply.assigned (reserved H caller m a))
+dispatched history caller now None = says Reply.nothing
+dispatched history caller now (Some assignment) =
+    makes (reserves now assignment) (Reply.assigned (reserved history caller now assignment))
 
 -- bind that does not keep the session: the failed start, and the closing of its slot
-abbrev pub not_kept : List Entry → ℕ → ℕ → SlotId → List ℕ → ℕ → FailWhy → (Closing → Reply) → Answer
-not_kept H caller r s x m w answer =
-    makes (change.Failed r s w (Some x) (is_last H r s) (moment m))
-    (answer (closing_of (after H caller (change.Failed r s w (Some x) (is_last H r s) (moment m) ∷ [])) s x))
+abbrev pub not_kept :
+    List Entry → ℕ → ℕ → SlotId → List ℕ → ℕ → FailWhy → (Closing → Reply) → Answer
+not_kept history caller request slot session now reason answer =
+    makes
+    (change.Failed request slot reason (Some session) (is_last history request slot) (moment now))
+    (answer (closing_of (after history caller
+    (change.Failed request slot reason (Some session) (is_last history request slot) (moment now)
+    ∷ [])) slot session))
 
--- the drain of a node of base Up on which as many sessions were bound now as it drains after
+-- the drain of a node of base Up on which as many sessions were bound as it drains after
 abbrev pub drain_after_bind : List Entry → ℕ → ℕ → List Change
-drain_after_bind H n m = cond (is_spent H n && is_base_up H n) (change.Draining n (moment m) ∷ []) []
+drain_after_bind history node now =
+    if is_spent history node && is_base_up history node
+    then change.Draining node (moment now) ∷ []
+    else []
 
--- bind that keeps the session: its Bound, and the drain of the slot's node where it was the last one there
+-- bind that keeps the session: its Bound, and the drain of the slot's node where it was the last
+-- one there
 abbrev pub bind_kept : List Entry → ℕ → ℕ → SlotId → List ℕ → List Cap → ℕ → Answer
-bind_kept H caller r s x caps m = record {
+bind_kept history caller request slot session capabilities now = record {
   changes =
-      change.Bound r s x caps (moment m)
-      ∷ drain_after_bind (after H caller (change.Bound r s x caps (moment m) ∷ [])) s.node m;
-  reply = Reply.bound r;
+      change.Bound request slot session capabilities (moment now)
+      ∷ drain_after_bind
+      (after history caller (change.Bound request slot session capabilities (moment now) ∷ []))
+      slot.node now;
+  reply = Reply.bound request;
 }
 
--- bind: the four causes in order
+-- the first of the four causes for which bind does not keep the session
+abbrev pub refusal_of : List Entry → ℕ → SlotId → List ℕ → List Cap → Option FailWhy
+refusal_of history request slot session capabilities =
+    if is_settled history request then Some why.Late
+    else if not (is_registered history slot.node) then Some why.NodeGone
+    else if is_live_session history session then Some why.Duplicate
+    else if not (meets (wanted_of history request slot) capabilities) then Some why.Mismatch
+    else None
+
+-- the reply for a cause
+abbrev pub refused_reply : FailWhy → Closing → Reply
+refused_reply why.Late closing = Reply.late closing
+refused_reply why.NodeGone closing = Reply.node_gone closing
+refused_reply why.Duplicate closing = Reply.duplicate closing
+refused_reply other closing = Reply.mismatch closing
+
+-- bind, by the cause not to keep the session
+abbrev pub bound_by :
+    List Entry → ℕ → ℕ → SlotId → List ℕ → List Cap → ℕ → Option FailWhy → Answer
+bound_by history caller request slot session capabilities now None =
+    bind_kept history caller request slot session capabilities now
+bound_by history caller request slot session capabilities now (Some reason) =
+    not_kept history caller request slot session now reason (refused_reply reason)
+
 abbrev pub bound : List Entry → ℕ → ℕ → SlotId → List ℕ → List Cap → ℕ → Answer
-bound H caller r s x caps m =
-    cond (is_settled H r) (not_kept H caller r s x m why.Late Reply.late)
-    (cond (not (is_registered H s.node)) (not_kept H caller r s x m why.NodeGone Reply.node_gone)
-    (cond (is_live_session H x) (not_kept H caller r s x m why.Duplicate Reply.duplicate)
-    (cond (not (meets (wanted_of H r s) caps)) (not_kept H caller r s x m why.Mismatch Reply.mismatch)
-    (bind_kept H caller r s x caps m))))
+bound history caller request slot session capabilities now =
+    bound_by history caller request slot session capabilities now
+    (refusal_of history request slot session capabilities)
 
 -- fail: the failed start without a session; the reply is by what held before it
 abbrev pub failed : List Entry → ℕ → SlotId → FailWhy → ℕ → Answer
-failed H r s w m =
-    makes (change.Failed r s w None (is_last H r s) (moment m))
-    (cond (is_settled H r) Reply.failed_late (cond (is_last H r s) Reply.failed_refused Reply.failed_again))
+failed history request slot reason now =
+    makes (change.Failed request slot reason None (is_last history request slot) (moment now))
+    (if is_settled history request then Reply.failed_late
+    else if is_last history request slot then Reply.failed_refused
+    else Reply.failed_again)
 
--- the session is live under this binding
+-- there is a running session, and this is its binding
 abbrev pub is_binding : ℕ → Option Running → Bool
-is_binding b None = false
-is_binding b (Some r) = nat_eq r.binding b
+is_binding binding None = false
+is_binding binding (Some running) = nat_eq running.binding binding
 
 -- the answer where the session is live under this binding
 abbrev pub at_binding : List Entry → List ℕ → ℕ → Answer → Answer
-at_binding H s b answer = cond (is_binding b (live H s)) answer (says Reply.no_session)
+at_binding history session binding answer =
+    if is_binding binding (live history session) then answer else says Reply.no_session
 
--- the end of a running session, and the closing of its slot
+-- the change that ends a running session, where there is one, and the closing of its slot
 abbrev pub closes : List Entry → ℕ → Change → Option Running → (Closing → Reply) → Answer
-closes H caller c None answer = says Reply.no_session
-closes H caller c (Some r) answer = makes c (answer (closing_of (after H caller (c ∷ [])) r.slot r.session))
+closes history caller made None answer = says Reply.no_session
+closes history caller made (Some running) answer =
+    makes made (answer (closing_of (after history caller (made ∷ [])) running.slot running.session))
 
--- the nodes that were silent for so long that they are down
+-- the registered nodes that were silent for so long that they are down
 abbrev pub lapsed_nodes : HubConfig → List Entry → ℕ → List ℕ
-lapsed_nodes c H m = filter (λ n. is_registered H n && nat_le c.down_ms (m - beat_of H n)) (nodes H)
+lapsed_nodes config history now =
+    filter
+    (λ node. is_registered history node && nat_le config.down_ms (now - beat_of history node))
+    (nodes history)
 
--- the nodes that are silent and not suspect yet
+-- the registered nodes that are silent and not suspect yet
 abbrev pub silent_nodes : HubConfig → List Entry → ℕ → List ℕ
-silent_nodes c H m =
-    filter (λ n. is_registered H n && not (is_suspect H n) && nat_le c.lapse_ms (m - beat_of H n)) (nodes H)
+silent_nodes config history now =
+    filter
+    (λ node. is_registered history node
+    && not (is_suspect history node)
+    && nat_le config.lapse_ms (now - beat_of history node))
+    (nodes history)
 
--- the requests that are not settled and whose deadline is there
+-- the requests that are not settled and whose deadline has come
 abbrev pub overdue_requests : List Entry → ℕ → List ℕ
-overdue_requests H m = filter (λ r. nat_le (deadline_of H r) m) (unsettled H)
+overdue_requests history now =
+    filter (λ request. nat_le (deadline_of history request) now) (unsettled history)
 
 -- the draining nodes whose slots are all free
 abbrev pub drained_nodes : List Entry → List ℕ
-drained_nodes H = filter (λ n. is_draining H n && not (has_slot_in_use H n)) (nodes H)
+drained_nodes history =
+    filter (λ node. is_draining history node && not (has_slot_in_use history node)) (nodes history)
 
 -- the lapses of a sweep
 abbrev pub lapses : HubConfig → List Entry → ℕ → List Change
-lapses c H m = map (λ n. change.Lapsed n (moment m)) (lapsed_nodes c H m)
+lapses config history now =
+    map (λ node. change.Lapsed node (moment now)) (lapsed_nodes config history now)
 
 -- the suspicions of a sweep
 abbrev pub suspicions : HubConfig → List Entry → ℕ → List Change
-suspicions c H m = map (λ n. change.Suspected n (moment m)) (silent_nodes c H m)
+suspicions config history now =
+    map (λ node. change.Suspected node (moment now)) (silent_nodes config history now)
 
 -- the time-outs of a sweep
 abbrev pub time_outs : List Entry → ℕ → List Change
-time_outs H m = map (λ r. change.TimedOut r (moment m)) (overdue_requests H m)
+time_outs history now =
+    map (λ request. change.TimedOut request (moment now)) (overdue_requests history now)
 
 -- the removals of a sweep
 abbrev pub removals : List Entry → ℕ → List Change
-removals H m = map (λ n. change.Removed n (moment m)) (drained_nodes H)
+removals history now = map (λ node. change.Removed node (moment now)) (drained_nodes history)
 
 -- the changes in order, and how many of each
 abbrev pub swept_by : List Change → List Change → List Change → List Change → Answer
-swept_by lapses suspected overdue removed = record {
-  changes = lapses ++ suspected ++ overdue ++ removed;
-  reply = Reply.swept (length lapses) (length suspected) (length overdue) (length removed);
+swept_by lapsed suspected overdue removed = record {
+  changes = lapsed ++ suspected ++ overdue ++ removed;
+  reply = Reply.swept (length lapsed) (length suspected) (length overdue) (length removed);
 }
 
--- sweep: each lapsed node, then each silent one, each overdue request, and each drained node. The silent and the drained
--- ones are read after the lapses: a node that lapses is not suspected then, and not removed
+-- sweep: each lapsed node, then each silent one, each overdue request, and each drained node. The
+-- silent and the drained ones are read after the lapses: a node that lapses is not suspected then,
+-- and not removed
 abbrev pub swept : HubConfig → List Entry → ℕ → ℕ → Answer
-swept c H caller m = swept_by (lapses c H m) (suspicions c (after H caller (lapses c H m)) m) (time_outs H m)
-    (removals (after H caller (lapses c H m)) m)
+swept config history caller now =
+    swept_by (lapses config history now)
+    (suspicions config (after history caller (lapses config history now)) now)
+    (time_outs history now)
+    (removals (after history caller (lapses config history now)) now)
 
--- expire: the idle session with the least binding
+-- the live bindings that were idle for too long
 abbrev pub idle_bindings : HubConfig → List Entry → ℕ → List ℕ
-idle_bindings c H m = filter (λ b. nat_le c.idle_ms (m - active H b)) (live_bindings H)
+idle_bindings config history now =
+    filter (λ binding. nat_le config.idle_ms (now - active history binding)) (live_bindings history)
 
--- expire, at the binding that is chosen
+-- expire: the end of the binding that is chosen, where there is one
 abbrev pub expired_by : List Entry → ℕ → ℕ → Option ℕ → Answer
-expired_by H caller m None = says Reply.nothing
-expired_by H caller m (Some b) = closes H caller (change.Ended b cause.Idle (moment m)) (bound_of H b) Reply.expired
+expired_by history caller now None = says Reply.nothing
+expired_by history caller now (Some binding) =
+    closes history caller (change.Ended binding cause.Idle (moment now))
+    (bound_of history binding) Reply.expired
 
 -- clear: each waiting request
 abbrev pub cleared : List Entry → ℕ → Answer
-cleared H m = record {
-  changes = map (λ r. change.Cleared r (moment m)) (waiting_requests H);
-  reply = Reply.cleared (length (waiting_requests H));
+cleared history now = record {
+  changes = map (λ request. change.Cleared request (moment now)) (waiting_requests history);
+  reply = Reply.cleared (length (waiting_requests history));
 }
 
 -- what the hub answers at a moment that is not before the clock
 abbrev pub answer : HubConfig → List Entry → ℕ → Call → ℕ → Answer
-answer c H caller (Call.register r) m = register_by c H r m (find (is_named H r.name) (nodes H))
-answer c H caller (Call.beat n) m = at_registered H n (change.Beaten n (moment m)) Reply.beaten
-answer c H caller (Call.drain n) m = drained H n m
-answer c H caller (Call.remove n) m = at_registered H n (change.Removed n (moment m)) Reply.removed
-answer c H caller (Call.enqueue choices) m = enqueued c H choices m
-answer c H caller (Call.poll t) m = polled H caller t.request m (outcome_of H t.request)
-answer c H caller Call.dispatch m = dispatched H caller m (chosen H m)
-answer c H caller (Call.bind t x caps) m = bound H caller t.request t.slot x caps m
-answer c H caller (Call.fail t w) m = failed H t.request t.slot w m
-answer c H caller (Call.lookup s) m = says (Reply.found (found_of (live H s)))
-answer c H caller (Call.touch s b) m = at_binding H s b (makes (change.Touched b (moment m)) Reply.touched)
-answer c H caller (Call.end s b) m =
-    at_binding H s b (closes H caller (change.Ended b cause.Quit (moment m)) (live H s) Reply.ended)
-answer c H caller (Call.freed t) m = makes (change.Freed t.slot) Reply.is_freed
-answer c H caller Call.sweep m = swept c H caller m
-answer c H caller Call.expire m = expired_by H caller m (least nat_lt (idle_bindings c H m))
-answer c H caller Call.clear m = cleared H m
-answer c H caller Call.view m = says (Reply.viewed (view_of H))
+answer config history caller (Call.register registration) now =
+    register_by config history registration now
+    (find (is_named history registration.name) (nodes history))
+answer config history caller (Call.beat node) now =
+    at_registered history node (change.Beaten node (moment now)) Reply.beaten
+answer config history caller (Call.drain node) now = drained history node now
+answer config history caller (Call.remove node) now =
+    at_registered history node (change.Removed node (moment now)) Reply.removed
+answer config history caller (Call.enqueue choices) now = enqueued config history choices now
+answer config history caller (Call.poll ticket) now =
+    polled history caller ticket.request now (outcome_of history ticket.request)
+answer config history caller Call.dispatch now = dispatched history caller now (chosen history now)
+answer config history caller (Call.bind reservation session capabilities) now =
+    bound history caller reservation.request reservation.slot session capabilities now
+answer config history caller (Call.fail reservation reason) now =
+    failed history reservation.request reservation.slot reason now
+answer config history caller (Call.lookup session) now =
+    says (Reply.found (found_of (live history session)))
+answer config history caller (Call.touch session binding) now =
+    at_binding history session binding (makes (change.Touched binding (moment now)) Reply.touched)
+answer config history caller (Call.end session binding) now =
+    at_binding history session binding
+    (closes history caller (change.Ended binding cause.Quit (moment now))
+    (live history session) Reply.ended)
+answer config history caller (Call.freed closing) now =
+    makes (change.Freed closing.slot) Reply.is_freed
+answer config history caller Call.sweep now = swept config history caller now
+answer config history caller Call.expire now =
+    expired_by history caller now (least nat_lt (idle_bindings config history now))
+answer config history caller Call.clear now = cleared history now
+answer config history caller Call.view now = says (Reply.viewed (view_of history))
 
--- what the hub answers: the moment is raised to the clock where it is earlier
+-- what the hub answers: a moment before the clock is raised to it
 unfoldable pub hub : HubConfig → List Entry → ℕ → Call → ℕ → Answer
-hub c H caller k at = answer c H caller k (max at (clock H))
+hub config history caller call at = answer config history caller call (max at (clock history))
 
 -- the history after the call
 abbrev pub after_call : HubConfig → List Entry → ℕ → Call → ℕ → List Entry
-after_call c H caller k at = after H caller (hub c H caller k at).changes
+after_call config history caller call at =
+    after history caller (hub config history caller call at).changes

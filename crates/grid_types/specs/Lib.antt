@@ -22,7 +22,9 @@ pub mod HubAnswers
 pub mod Safe
 pub mod LookupMap
 pub mod Laws
+pub mod Told
 pub mod OneMoreEntry
 pub mod WorkedHistories
 pub mod FullGrid
 pub mod Tables
+pub mod HistoryLaws

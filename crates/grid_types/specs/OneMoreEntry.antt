@@ -1,5 +1,6 @@
--- What one more entry does to each fact about a history. A table that keeps a fact is kept right by these laws.
-use Rattle.std.specs.Prelude.{◌≡◌, ℕ, ◌+◌, Bool, true, false, cond, not, ◌&&◌, ◌||◌, nat_eq, bytes_eq, List, [], ◌∷◌, ◌++◌, map, length, filter, Option, None, Some, is_some, ◌↔◌}
+-- What one more entry does to each fact about a history. A table that keeps a fact is kept right by
+-- these laws.
+use Rattle.std.specs.Prelude.{◌≡◌, ℕ, ◌+◌, Bool, true, false, if◌then◌else◌, not, ◌&&◌, ◌||◌, nat_eq, bytes_eq, List, [], ◌∷◌, ◌++◌, map, length, filter, Option, None, Some, is_some, ◌↔◌}
 use Rattle.grid_types.specs.declared.entry.Entry.{Entry}
 use Rattle.grid_types.specs.declared.entry.Change.{Change}
 use Rattle.grid_types.specs.declared.entry.Change.TheVariants as change
@@ -18,7 +19,7 @@ use Rattle.grid_types.specs.Nodes.{base_of, base_told, is_suspected, suspicion_t
 use Rattle.grid_types.specs.Bindings.{Running, bound_slot}
 use Rattle.grid_types.specs.Slots.{free, held, busy, closing, slot_eq, holder, holder_told, owner, is_free, is_busy, names_slot, load, held_count, slots_of}
 use Rattle.grid_types.specs.Requests.{waiting, held as held_place, settled, taken, place, is_settled, is_barred, barred_told, asked_told, outcome_told, held_told, is_taken_by, deadline_of, unsettled}
-use Rattle.grid_types.specs.Sessions.{IsRunning, live, live_told, active, active_told}
+use Rattle.grid_types.specs.Sessions.{IsRunning, is_at_node, live, live_told, active, active_told}
 use Rattle.grid_types.specs.LookupMap.{put, removal, changes, published, published_by, session_in, sessions_on}
 use Rattle.grid_types.specs.HubAnswers.{is_binding}
 use Rattle.grid_types.specs.Permitted.{permitted}
@@ -26,173 +27,408 @@ use Rattle.grid_types.specs.Legal.{legal}
 
 -- the history with the caller's change after it
 abbrev pub with_entry : List Entry → ℕ → Change → List Entry
-with_entry H k c = record { caller = k; change = c } ∷ H
+with_entry history caller new = record { caller = caller; change = new } ∷ history
 
 -- a node's base
 pub record BaseMoves : Type 0 where
-  pub registered : (H : List Entry) (k m n : ℕ) (r : Registration) (at : Moment) → base_of (with_entry H k (change.Registered m r at)) n ≡ cond (nat_eq m n) (Some standing.Up) (base_of H n)
-  pub draining : (H : List Entry) (k m n : ℕ) (at : Moment) → base_of (with_entry H k (change.Draining m at)) n ≡ cond (nat_eq m n) (Some standing.Draining) (base_of H n)
-  pub removed : (H : List Entry) (k m n : ℕ) (at : Moment) → base_of (with_entry H k (change.Removed m at)) n ≡ cond (nat_eq m n) (Some standing.Gone) (base_of H n)
-  pub lapsed : (H : List Entry) (k m n : ℕ) (at : Moment) → base_of (with_entry H k (change.Lapsed m at)) n ≡ cond (nat_eq m n) (Some standing.Down) (base_of H n)
-  pub others : (H : List Entry) (k n : ℕ) (c : Change) → base_told n c ≡ None → base_of (with_entry H k c) n ≡ base_of H n
+  pub registered : (history : List Entry) (caller named node : ℕ)
+      (registration : Registration) (at : Moment) →
+      base_of (with_entry history caller (change.Registered named registration at)) node
+      ≡ (if nat_eq named node then Some standing.Up else base_of history node)
+  pub draining : (history : List Entry) (caller named node : ℕ) (at : Moment) →
+      base_of (with_entry history caller (change.Draining named at)) node
+      ≡ (if nat_eq named node then Some standing.Draining else base_of history node)
+  pub removed : (history : List Entry) (caller named node : ℕ) (at : Moment) →
+      base_of (with_entry history caller (change.Removed named at)) node
+      ≡ (if nat_eq named node then Some standing.Gone else base_of history node)
+  pub lapsed : (history : List Entry) (caller named node : ℕ) (at : Moment) →
+      base_of (with_entry history caller (change.Lapsed named at)) node
+      ≡ (if nat_eq named node then Some standing.Down else base_of history node)
+  pub others : (history : List Entry) (caller node : ℕ) (new : Change) →
+      base_told node new ≡ None →
+      base_of (with_entry history caller new) node ≡ base_of history node
 
 -- whether a node was suspected and has not beaten since
 pub record SuspicionMoves : Type 0 where
-  pub suspected : (H : List Entry) (k m n : ℕ) (at : Moment) →
-      is_suspected (with_entry H k (change.Suspected m at)) n ≡ cond (nat_eq m n) true (is_suspected H n)
-  pub beaten : (H : List Entry) (k m n : ℕ) (at : Moment) →
-      is_suspected (with_entry H k (change.Beaten m at)) n ≡ cond (nat_eq m n) false (is_suspected H n)
-  pub others : (H : List Entry) (k n : ℕ) (c : Change) → suspicion_told n c ≡ None →
-      is_suspected (with_entry H k c) n ≡ is_suspected H n
+  pub suspected : (history : List Entry) (caller named node : ℕ) (at : Moment) →
+      is_suspected (with_entry history caller (change.Suspected named at)) node
+      ≡ (if nat_eq named node then true else is_suspected history node)
+  pub beaten : (history : List Entry) (caller named node : ℕ) (at : Moment) →
+      is_suspected (with_entry history caller (change.Beaten named at)) node
+      ≡ (if nat_eq named node then false else is_suspected history node)
+  pub others : (history : List Entry) (caller node : ℕ) (new : Change) →
+      suspicion_told node new ≡ None →
+      is_suspected (with_entry history caller new) node ≡ is_suspected history node
 
 -- how many sessions were bound on a node
 pub record CountMoves : Type 0 where
-  pub bound : (H : List Entry) (k r n : ℕ) (t : SlotId) (x : List ℕ) (caps : List Cap) (at : Moment) →
-      bound_count (with_entry H k (change.Bound r t x caps at)) n ≡ cond (nat_eq t.node n) (bound_count H n + 1) (bound_count H n)
-  pub others : (H : List Entry) (k n : ℕ) (c : Change) → binds_on n c ≡ false →
-      bound_count (with_entry H k c) n ≡ bound_count H n
+  pub bound : (history : List Entry) (caller request node : ℕ) (slot : SlotId)
+      (session : List ℕ) (capabilities : List Cap) (at : Moment) →
+      bound_count
+      (with_entry history caller (change.Bound request slot session capabilities at)) node
+      ≡ (if nat_eq slot.node node then bound_count history node + 1 else bound_count history node)
+  pub others : (history : List Entry) (caller node : ℕ) (new : Change) →
+      binds_on node new ≡ false →
+      bound_count (with_entry history caller new) node ≡ bound_count history node
 
--- a node's last beat, and its last reservation
+-- a node's last beat
 pub record BeatMoves : Type 0 where
-  pub registered : (H : List Entry) (k m n : ℕ) (r : Registration) (at : Moment) → beat_of (with_entry H k (change.Registered m r at)) n ≡ cond (nat_eq m n) at.0 (beat_of H n)
-  pub beaten : (H : List Entry) (k m n : ℕ) (at : Moment) → beat_of (with_entry H k (change.Beaten m at)) n ≡ cond (nat_eq m n) at.0 (beat_of H n)
-  pub others : (H : List Entry) (k n : ℕ) (c : Change) → beat_told n c ≡ None → beat_of (with_entry H k c) n ≡ beat_of H n
+  pub registered : (history : List Entry) (caller named node : ℕ)
+      (registration : Registration) (at : Moment) →
+      beat_of (with_entry history caller (change.Registered named registration at)) node
+      ≡ (if nat_eq named node then at.0 else beat_of history node)
+  pub beaten : (history : List Entry) (caller named node : ℕ) (at : Moment) →
+      beat_of (with_entry history caller (change.Beaten named at)) node
+      ≡ (if nat_eq named node then at.0 else beat_of history node)
+  pub others : (history : List Entry) (caller node : ℕ) (new : Change) →
+      beat_told node new ≡ None →
+      beat_of (with_entry history caller new) node ≡ beat_of history node
 
 -- the place of a node's last reservation
 pub record TurnMoves : Type 0 where
-  pub reserved : (H : List Entry) (k r n : ℕ) (t : SlotId) (choice : ℕ) (at : Moment) → turned (with_entry H k (change.Reserved r t choice at)) n ≡ cond (nat_eq t.node n) (length H + 1) (turned H n)
-  pub others : (H : List Entry) (k n : ℕ) (c : Change) → turned_told n c ≡ false → turned (with_entry H k c) n ≡ turned H n
+  pub reserved : (history : List Entry) (caller request node : ℕ) (slot : SlotId) (choice : ℕ)
+      (at : Moment) →
+      turned (with_entry history caller (change.Reserved request slot choice at)) node
+      ≡ (if nat_eq slot.node node then length history + 1 else turned history node)
+  pub others : (history : List Entry) (caller node : ℕ) (new : Change) →
+      turned_told node new ≡ false →
+      turned (with_entry history caller new) node ≡ turned history node
 
 -- a slot's holder
 pub record HolderMoves : Type 0 where
-  pub reserved : (H : List Entry) (k r : ℕ) (t s : SlotId) (choice : ℕ) (at : Moment) → holder (with_entry H k (change.Reserved r t choice at)) s ≡ cond (slot_eq t s) (held r) (holder H s)
-  pub bound : (H : List Entry) (k r : ℕ) (t s : SlotId) (x : List ℕ) (caps : List Cap) (at : Moment) → holder (with_entry H k (change.Bound r t x caps at)) s ≡ cond (slot_eq t s) (busy x) (holder H s)
-  pub failed : (H : List Entry) (k r : ℕ) (t s : SlotId) (w : FailWhy) (o : Option (List ℕ)) (last : Bool) (at : Moment) →
-      holder (with_entry H k (change.Failed r t w o last at)) s ≡ cond (slot_eq t s) (cond (is_some o) closing free) (holder H s)
-  pub ended : (H : List Entry) (k b : ℕ) (s : SlotId) (e : EndCause) (at : Moment) → holder (with_entry H k (change.Ended b e at)) s ≡ cond (names_slot s (bound_slot H b)) closing (holder H s)
-  pub freed : (H : List Entry) (k : ℕ) (t s : SlotId) → holder (with_entry H k (change.Freed t)) s ≡ cond (slot_eq t s) free (holder H s)
-  pub lapsed : (H : List Entry) (k n : ℕ) (s : SlotId) (at : Moment) → holder (with_entry H k (change.Lapsed n at)) s ≡ cond (nat_eq n s.node && is_busy (holder H s)) free (holder H s)
-  pub others : (H : List Entry) (k : ℕ) (s : SlotId) (c : Change) → holder_told H s (holder H s) c ≡ None → holder (with_entry H k c) s ≡ holder H s
+  pub reserved : (history : List Entry) (caller request : ℕ) (named slot : SlotId)
+      (choice : ℕ) (at : Moment) →
+      holder (with_entry history caller (change.Reserved request named choice at)) slot
+      ≡ (if slot_eq named slot then held request else holder history slot)
+  pub bound : (history : List Entry) (caller request : ℕ) (named slot : SlotId)
+      (session : List ℕ) (capabilities : List Cap) (at : Moment) →
+      holder (with_entry history caller (change.Bound request named session capabilities at)) slot
+      ≡ (if slot_eq named slot then busy session else holder history slot)
+  pub failed : (history : List Entry) (caller request : ℕ) (named slot : SlotId)
+      (reason : FailWhy) (orphan : Option (List ℕ)) (last : Bool) (at : Moment) →
+      holder (with_entry history caller (change.Failed request named reason orphan last at)) slot
+      ≡ (if slot_eq named slot then (if is_some orphan then closing else free)
+      else holder history slot)
+  pub ended : (history : List Entry) (caller binding : ℕ) (slot : SlotId) (ending : EndCause)
+      (at : Moment) →
+      holder (with_entry history caller (change.Ended binding ending at)) slot
+      ≡ (if names_slot slot (bound_slot history binding) then closing else holder history slot)
+  pub freed : (history : List Entry) (caller : ℕ) (named slot : SlotId) →
+      holder (with_entry history caller (change.Freed named)) slot
+      ≡ (if slot_eq named slot then free else holder history slot)
+  pub lapsed : (history : List Entry) (caller node : ℕ) (slot : SlotId) (at : Moment) →
+      holder (with_entry history caller (change.Lapsed node at)) slot
+      ≡ (if nat_eq node slot.node && is_busy (holder history slot) then free
+      else holder history slot)
+  pub others : (history : List Entry) (caller : ℕ) (slot : SlotId) (new : Change) →
+      holder_told history slot (holder history slot) new ≡ None →
+      holder (with_entry history caller new) slot ≡ holder history slot
 
 -- a slot's owner: the caller of each entry that concerns the slot
 pub record OwnerMoves : Type 0 where
-  pub reserved : (H : List Entry) (k r : ℕ) (t s : SlotId) (choice : ℕ) (at : Moment) → owner (with_entry H k (change.Reserved r t choice at)) s ≡ cond (slot_eq t s) (Some k) (owner H s)
-  pub bound : (H : List Entry) (k r : ℕ) (t s : SlotId) (x : List ℕ) (caps : List Cap) (at : Moment) → owner (with_entry H k (change.Bound r t x caps at)) s ≡ cond (slot_eq t s) (Some k) (owner H s)
-  pub failed : (H : List Entry) (k r : ℕ) (t s : SlotId) (w : FailWhy) (o : Option (List ℕ)) (last : Bool) (at : Moment) →
-      owner (with_entry H k (change.Failed r t w o last at)) s ≡ cond (slot_eq t s) (Some k) (owner H s)
-  pub ended : (H : List Entry) (k b : ℕ) (s : SlotId) (e : EndCause) (at : Moment) → owner (with_entry H k (change.Ended b e at)) s ≡ cond (names_slot s (bound_slot H b)) (Some k) (owner H s)
-  pub freed : (H : List Entry) (k : ℕ) (t s : SlotId) → owner (with_entry H k (change.Freed t)) s ≡ cond (slot_eq t s) (Some k) (owner H s)
-  pub lapsed : (H : List Entry) (k n : ℕ) (s : SlotId) (at : Moment) → owner (with_entry H k (change.Lapsed n at)) s ≡ cond (nat_eq n s.node && is_busy (holder H s)) (Some k) (owner H s)
-  pub others : (H : List Entry) (k : ℕ) (s : SlotId) (c : Change) → holder_told H s (holder H s) c ≡ None → owner (with_entry H k c) s ≡ owner H s
+  pub reserved : (history : List Entry) (caller request : ℕ) (named slot : SlotId)
+      (choice : ℕ) (at : Moment) →
+      owner (with_entry history caller (change.Reserved request named choice at)) slot
+      ≡ (if slot_eq named slot then Some caller else owner history slot)
+  pub bound : (history : List Entry) (caller request : ℕ) (named slot : SlotId)
+      (session : List ℕ) (capabilities : List Cap) (at : Moment) →
+      owner (with_entry history caller (change.Bound request named session capabilities at)) slot
+      ≡ (if slot_eq named slot then Some caller else owner history slot)
+  pub failed : (history : List Entry) (caller request : ℕ) (named slot : SlotId)
+      (reason : FailWhy) (orphan : Option (List ℕ)) (last : Bool) (at : Moment) →
+      owner (with_entry history caller (change.Failed request named reason orphan last at)) slot
+      ≡ (if slot_eq named slot then Some caller else owner history slot)
+  pub ended : (history : List Entry) (caller binding : ℕ) (slot : SlotId) (ending : EndCause)
+      (at : Moment) →
+      owner (with_entry history caller (change.Ended binding ending at)) slot
+      ≡ (if names_slot slot (bound_slot history binding) then Some caller else owner history slot)
+  pub freed : (history : List Entry) (caller : ℕ) (named slot : SlotId) →
+      owner (with_entry history caller (change.Freed named)) slot
+      ≡ (if slot_eq named slot then Some caller else owner history slot)
+  pub lapsed : (history : List Entry) (caller node : ℕ) (slot : SlotId) (at : Moment) →
+      owner (with_entry history caller (change.Lapsed node at)) slot
+      ≡ (if nat_eq node slot.node && is_busy (holder history slot) then Some caller
+      else owner history slot)
+  pub others : (history : List Entry) (caller : ℕ) (slot : SlotId) (new : Change) →
+      holder_told history slot (holder history slot) new ≡ None →
+      owner (with_entry history caller new) slot ≡ owner history slot
 
 -- a node's load
-pub record LoadMoves (c : HubConfig) : Type 0 where
-  pub registered : (H : List Entry) (k n : ℕ) (r : Registration) (at : Moment) → legal c H ≡ true → permitted c H k (change.Registered n r at) ≡ true → load (with_entry H k (change.Registered n r at)) n ≡ 0
-  pub reserved : (H : List Entry) (k q : ℕ) (t : SlotId) (choice : ℕ) (at : Moment) → legal c (with_entry H k (change.Reserved q t choice at)) ≡ true →
-      load (with_entry H k (change.Reserved q t choice at)) t.node ≡ load H t.node + 1
-  pub bound : (H : List Entry) (k q n : ℕ) (t : SlotId) (x : List ℕ) (caps : List Cap) (at : Moment) → permitted c H k (change.Bound q t x caps at) ≡ true → load (with_entry H k (change.Bound q t x caps at)) n ≡ load H n
-  pub failed : (H : List Entry) (k q : ℕ) (t : SlotId) (w : FailWhy) (last : Bool) (at : Moment) → legal c H ≡ true → permitted c H k (change.Failed q t w None last at) ≡ true →
-      load H t.node ≡ load (with_entry H k (change.Failed q t w None last at)) t.node + 1
-  pub failed_orphan : (H : List Entry) (k q n : ℕ) (t : SlotId) (w : FailWhy) (x : List ℕ) (last : Bool) (at : Moment) → permitted c H k (change.Failed q t w (Some x) last at) ≡ true →
-      load (with_entry H k (change.Failed q t w (Some x) last at)) n ≡ load H n
-  pub ended : (H : List Entry) (k b n : ℕ) (e : EndCause) (at : Moment) → legal c H ≡ true → permitted c H k (change.Ended b e at) ≡ true → load (with_entry H k (change.Ended b e at)) n ≡ load H n
-  pub freed : (H : List Entry) (k : ℕ) (t : SlotId) → legal c H ≡ true → permitted c H k (change.Freed t) ≡ true → load H t.node ≡ load (with_entry H k (change.Freed t)) t.node + 1
-  pub lapsed : (H : List Entry) (k n : ℕ) (at : Moment) → load (with_entry H k (change.Lapsed n at)) n ≡ how_many (λ s. not (is_free (holder H s)) && not (is_busy (holder H s))) (slots_of H n)
+pub record LoadMoves (config : HubConfig) : Type 0 where
+  pub registered : (history : List Entry) (caller node : ℕ) (registration : Registration)
+      (at : Moment) →
+      legal config history ≡ true →
+      permitted config history caller (change.Registered node registration at) ≡ true →
+      load (with_entry history caller (change.Registered node registration at)) node ≡ 0
+  pub reserved : (history : List Entry) (caller request : ℕ) (slot : SlotId) (choice : ℕ)
+      (at : Moment) →
+      legal config (with_entry history caller (change.Reserved request slot choice at)) ≡ true →
+      load (with_entry history caller (change.Reserved request slot choice at)) slot.node
+      ≡ load history slot.node + 1
+  pub bound : (history : List Entry) (caller request node : ℕ) (slot : SlotId)
+      (session : List ℕ) (capabilities : List Cap) (at : Moment) →
+      permitted config history caller (change.Bound request slot session capabilities at) ≡ true →
+      load (with_entry history caller (change.Bound request slot session capabilities at)) node
+      ≡ load history node
+  pub failed : (history : List Entry) (caller request : ℕ) (slot : SlotId) (reason : FailWhy)
+      (last : Bool) (at : Moment) →
+      legal config history ≡ true →
+      permitted config history caller (change.Failed request slot reason None last at) ≡ true →
+      load history slot.node
+      ≡ load (with_entry history caller (change.Failed request slot reason None last at)) slot.node
+      + 1
+  pub failed_orphan : (history : List Entry) (caller request node : ℕ) (slot : SlotId)
+      (reason : FailWhy) (session : List ℕ) (last : Bool) (at : Moment) →
+      permitted config history caller (change.Failed request slot reason (Some session) last at)
+      ≡ true →
+      load
+      (with_entry history caller (change.Failed request slot reason (Some session) last at)) node
+      ≡ load history node
+  pub ended : (history : List Entry) (caller binding node : ℕ) (ending : EndCause)
+      (at : Moment) →
+      legal config history ≡ true →
+      permitted config history caller (change.Ended binding ending at) ≡ true →
+      load (with_entry history caller (change.Ended binding ending at)) node ≡ load history node
+  pub freed : (history : List Entry) (caller : ℕ) (slot : SlotId) →
+      legal config history ≡ true → permitted config history caller (change.Freed slot) ≡ true →
+      load history slot.node ≡ load (with_entry history caller (change.Freed slot)) slot.node + 1
+  pub lapsed : (history : List Entry) (caller node : ℕ) (at : Moment) →
+      load (with_entry history caller (change.Lapsed node at)) node
+      ≡ how_many
+      (λ slot. not (is_free (holder history slot)) && not (is_busy (holder history slot)))
+      (slots_of history node)
   -- no slot of the node is concerned, and it is not registered now
-  pub others : (H : List Entry) (k n : ℕ) (d : Change) → registration_told n d ≡ None → ((s : SlotId) → s.node ≡ n → holder_told H s (holder H s) d ≡ None) → load (with_entry H k d) n ≡ load H n
+  pub others : (history : List Entry) (caller node : ℕ) (new : Change) →
+      registration_told node new ≡ None →
+      ((slot : SlotId) → slot.node ≡ node →
+      holder_told history slot (holder history slot) new ≡ None) →
+      load (with_entry history caller new) node ≡ load history node
 
 -- how many slots of a node are held
-pub record HeldMoves (c : HubConfig) : Type 0 where
-  pub registered : (H : List Entry) (k n : ℕ) (r : Registration) (at : Moment) → legal c H ≡ true →
-      permitted c H k (change.Registered n r at) ≡ true → held_count (with_entry H k (change.Registered n r at)) n ≡ 0
-  pub reserved : (H : List Entry) (k q : ℕ) (t : SlotId) (choice : ℕ) (at : Moment) →
-      legal c (with_entry H k (change.Reserved q t choice at)) ≡ true →
-      held_count (with_entry H k (change.Reserved q t choice at)) t.node ≡ held_count H t.node + 1
-  pub bound : (H : List Entry) (k q : ℕ) (t : SlotId) (x : List ℕ) (caps : List Cap) (at : Moment) → legal c H ≡ true →
-      permitted c H k (change.Bound q t x caps at) ≡ true →
-      held_count H t.node ≡ held_count (with_entry H k (change.Bound q t x caps at)) t.node + 1
-  pub failed : (H : List Entry) (k q : ℕ) (t : SlotId) (w : FailWhy) (o : Option (List ℕ)) (last : Bool) (at : Moment) →
-      legal c H ≡ true → permitted c H k (change.Failed q t w o last at) ≡ true →
-      held_count H t.node ≡ held_count (with_entry H k (change.Failed q t w o last at)) t.node + 1
-  pub ended : (H : List Entry) (k b n : ℕ) (e : EndCause) (at : Moment) → legal c H ≡ true →
-      permitted c H k (change.Ended b e at) ≡ true → held_count (with_entry H k (change.Ended b e at)) n ≡ held_count H n
-  pub freed : (H : List Entry) (k n : ℕ) (t : SlotId) → permitted c H k (change.Freed t) ≡ true →
-      held_count (with_entry H k (change.Freed t)) n ≡ held_count H n
-  pub lapsed : (H : List Entry) (k m n : ℕ) (at : Moment) → held_count (with_entry H k (change.Lapsed m at)) n ≡ held_count H n
+pub record HeldMoves (config : HubConfig) : Type 0 where
+  pub registered : (history : List Entry) (caller node : ℕ) (registration : Registration)
+      (at : Moment) →
+      legal config history ≡ true →
+      permitted config history caller (change.Registered node registration at) ≡ true →
+      held_count (with_entry history caller (change.Registered node registration at)) node ≡ 0
+  pub reserved : (history : List Entry) (caller request : ℕ) (slot : SlotId) (choice : ℕ)
+      (at : Moment) →
+      legal config (with_entry history caller (change.Reserved request slot choice at)) ≡ true →
+      held_count (with_entry history caller (change.Reserved request slot choice at)) slot.node
+      ≡ held_count history slot.node + 1
+  pub bound : (history : List Entry) (caller request : ℕ) (slot : SlotId) (session : List ℕ)
+      (capabilities : List Cap) (at : Moment) →
+      legal config history ≡ true →
+      permitted config history caller (change.Bound request slot session capabilities at) ≡ true →
+      held_count history slot.node
+      ≡ held_count
+      (with_entry history caller (change.Bound request slot session capabilities at)) slot.node
+      + 1
+  pub failed : (history : List Entry) (caller request : ℕ) (slot : SlotId) (reason : FailWhy)
+      (orphan : Option (List ℕ)) (last : Bool) (at : Moment) →
+      legal config history ≡ true →
+      permitted config history caller (change.Failed request slot reason orphan last at) ≡ true →
+      held_count history slot.node
+      ≡ held_count
+      (with_entry history caller (change.Failed request slot reason orphan last at)) slot.node
+      + 1
+  pub ended : (history : List Entry) (caller binding node : ℕ) (ending : EndCause)
+      (at : Moment) →
+      legal config history ≡ true →
+      permitted config history caller (change.Ended binding ending at) ≡ true →
+      held_count (with_entry history caller (change.Ended binding ending at)) node
+      ≡ held_count history node
+  pub freed : (history : List Entry) (caller node : ℕ) (slot : SlotId) →
+      permitted config history caller (change.Freed slot) ≡ true →
+      held_count (with_entry history caller (change.Freed slot)) node ≡ held_count history node
+  pub lapsed : (history : List Entry) (caller named node : ℕ) (at : Moment) →
+      held_count (with_entry history caller (change.Lapsed named at)) node ≡ held_count history node
   -- no slot of the node is concerned, and it is not registered now
-  pub others : (H : List Entry) (k n : ℕ) (d : Change) → registration_told n d ≡ None →
-      ((s : SlotId) → s.node ≡ n → holder_told H s (holder H s) d ≡ None) → held_count (with_entry H k d) n ≡ held_count H n
+  pub others : (history : List Entry) (caller node : ℕ) (new : Change) →
+      registration_told node new ≡ None →
+      ((slot : SlotId) → slot.node ≡ node →
+      holder_told history slot (holder history slot) new ≡ None) →
+      held_count (with_entry history caller new) node ≡ held_count history node
 
 -- where a request stands
-pub record PlaceMoves (c : HubConfig) : Type 0 where
-  pub queued : (H : List Entry) (k q r : ℕ) (choices : List (List Cap)) (d at : Moment) → legal c H ≡ true → permitted c H k (change.Queued q choices d at) ≡ true →
-      place (with_entry H k (change.Queued q choices d at)) r ≡ cond (nat_eq q r) waiting (place H r)
-  pub reserved : (H : List Entry) (k q r : ℕ) (t : SlotId) (choice : ℕ) (at : Moment) → permitted c H k (change.Reserved q t choice at) ≡ true →
-      place (with_entry H k (change.Reserved q t choice at)) r ≡ cond (nat_eq q r) held_place (place H r)
-  pub bound : (H : List Entry) (k q r : ℕ) (t : SlotId) (x : List ℕ) (caps : List Cap) (at : Moment) → permitted c H k (change.Bound q t x caps at) ≡ true →
-      place (with_entry H k (change.Bound q t x caps at)) r ≡ cond (nat_eq q r) (settled (outcome.Created x caps t (address_of H t.node) q)) (place H r)
+pub record PlaceMoves (config : HubConfig) : Type 0 where
+  pub queued : (history : List Entry) (caller named request : ℕ) (choices : List (List Cap))
+      (deadline at : Moment) →
+      legal config history ≡ true →
+      permitted config history caller (change.Queued named choices deadline at) ≡ true →
+      place (with_entry history caller (change.Queued named choices deadline at)) request
+      ≡ (if nat_eq named request then waiting else place history request)
+  pub reserved : (history : List Entry) (caller named request : ℕ) (slot : SlotId)
+      (choice : ℕ) (at : Moment) →
+      permitted config history caller (change.Reserved named slot choice at) ≡ true →
+      place (with_entry history caller (change.Reserved named slot choice at)) request
+      ≡ (if nat_eq named request then held_place else place history request)
+  pub bound : (history : List Entry) (caller named request : ℕ) (slot : SlotId)
+      (session : List ℕ) (capabilities : List Cap) (at : Moment) →
+      permitted config history caller (change.Bound named slot session capabilities at) ≡ true →
+      place (with_entry history caller (change.Bound named slot session capabilities at)) request
+      ≡ (if nat_eq named request
+      then settled (outcome.Created session capabilities slot (address_of history slot.node) named)
+      else place history request)
   -- a failed start settles its request, or leaves it as it was settled, or makes it wait again
-  pub failed : (H : List Entry) (k q r : ℕ) (t : SlotId) (w : FailWhy) (o : Option (List ℕ)) (last : Bool) (at : Moment) → legal c H ≡ true → permitted c H k (change.Failed q t w o last at) ≡ true →
-      place (with_entry H k (change.Failed q t w o last at)) r ≡ cond (nat_eq q r) (cond last (settled (outcome.StartFailed w)) (cond (is_settled H q) (place H q) waiting)) (place H r)
-  pub timed_out : (H : List Entry) (k q r : ℕ) (at : Moment) → permitted c H k (change.TimedOut q at) ≡ true →
-      place (with_entry H k (change.TimedOut q at)) r ≡ cond (nat_eq q r) (settled (outcome.TimedOut (record { 0 = deadline_of H q }))) (place H r)
-  pub cleared : (H : List Entry) (k q r : ℕ) (at : Moment) → permitted c H k (change.Cleared q at) ≡ true → place (with_entry H k (change.Cleared q at)) r ≡ cond (nat_eq q r) (settled outcome.Cleared) (place H r)
-  pub taken : (H : List Entry) (k q r : ℕ) (at : Moment) → place (with_entry H k (change.Taken q at)) r ≡ cond (nat_eq q r) taken (place H r)
-  pub others : (H : List Entry) (k r : ℕ) (d : Change) → asked_told r k d ≡ None → outcome_told r H d ≡ None → held_told r d ≡ None → is_taken_by r d ≡ false → place (with_entry H k d) r ≡ place H r
+  pub failed : (history : List Entry) (caller named request : ℕ) (slot : SlotId)
+      (reason : FailWhy) (orphan : Option (List ℕ)) (last : Bool) (at : Moment) →
+      legal config history ≡ true →
+      permitted config history caller (change.Failed named slot reason orphan last at) ≡ true →
+      place (with_entry history caller (change.Failed named slot reason orphan last at)) request
+      ≡ (if nat_eq named request
+      then (if last then settled (outcome.StartFailed reason)
+      else if is_settled history named then place history named
+      else waiting)
+      else place history request)
+  pub timed_out : (history : List Entry) (caller named request : ℕ) (at : Moment) →
+      permitted config history caller (change.TimedOut named at) ≡ true →
+      place (with_entry history caller (change.TimedOut named at)) request
+      ≡ (if nat_eq named request
+      then settled (outcome.TimedOut (record { 0 = deadline_of history named }))
+      else place history request)
+  pub cleared : (history : List Entry) (caller named request : ℕ) (at : Moment) →
+      permitted config history caller (change.Cleared named at) ≡ true →
+      place (with_entry history caller (change.Cleared named at)) request
+      ≡ (if nat_eq named request then settled outcome.Cleared else place history request)
+  pub taken : (history : List Entry) (caller named request : ℕ) (at : Moment) →
+      place (with_entry history caller (change.Taken named at)) request
+      ≡ (if nat_eq named request then taken else place history request)
+  pub others : (history : List Entry) (caller request : ℕ) (new : Change) →
+      asked_told request caller new ≡ None → outcome_told request history new ≡ None →
+      held_told request new ≡ None → is_taken_by request new ≡ false →
+      place (with_entry history caller new) request ≡ place history request
 
 -- the nodes that are barred for a request
 pub record BarMoves : Type 0 where
-  pub failed : (H : List Entry) (k q r n : ℕ) (t : SlotId) (w : FailWhy) (o : Option (List ℕ)) (last : Bool) (at : Moment) →
-      is_barred (with_entry H k (change.Failed q t w o last at)) r n ≡ ((nat_eq q r && nat_eq t.node n) || is_barred H r n)
-  pub others : (H : List Entry) (k r n : ℕ) (c : Change) → barred_told r n c ≡ false → is_barred (with_entry H k c) r n ≡ is_barred H r n
+  pub failed : (history : List Entry) (caller named request node : ℕ) (slot : SlotId)
+      (reason : FailWhy) (orphan : Option (List ℕ)) (last : Bool) (at : Moment) →
+      is_barred
+      (with_entry history caller (change.Failed named slot reason orphan last at)) request node
+      ≡ ((nat_eq named request && nat_eq slot.node node) || is_barred history request node)
+  pub others : (history : List Entry) (caller request node : ℕ) (new : Change) →
+      barred_told request node new ≡ false →
+      is_barred (with_entry history caller new) request node ≡ is_barred history request node
 
--- the session runs on the node
-abbrev pub runs_on : ℕ → Option Running → Bool
-runs_on n None = false
-runs_on n (Some x) = nat_eq x.slot.node n
-
--- where a session is live, and when it was last active
-pub record LiveMoves (c : HubConfig) : Type 0 where
-  pub bound : (H : List Entry) (k r : ℕ) (t : SlotId) (y : List ℕ) (caps : List Cap) (at : Moment) (s : List ℕ) → legal c (with_entry H k (change.Bound r t y caps at)) ≡ true →
-      live (with_entry H k (change.Bound r t y caps at)) s ≡ cond (bytes_eq y s) (Some (record { session = y; slot = t; address = address_of H t.node; binding = r })) (live H s)
-  pub ended : (H : List Entry) (k b : ℕ) (e : EndCause) (at : Moment) (s : List ℕ) → live (with_entry H k (change.Ended b e at)) s ≡ cond (is_binding b (live H s)) None (live H s)
-  pub lapsed : (H : List Entry) (k n : ℕ) (at : Moment) (s : List ℕ) → legal c H ≡ true → live (with_entry H k (change.Lapsed n at)) s ≡ cond (runs_on n (live H s)) None (live H s)
-  pub others : (H : List Entry) (k : ℕ) (d : Change) (s : List ℕ) → ((b : ℕ) → live_told b H d ≡ None) → live (with_entry H k d) s ≡ live H s
+-- where a session is live
+pub record LiveMoves (config : HubConfig) : Type 0 where
+  pub bound : (history : List Entry) (caller request : ℕ) (slot : SlotId) (named : List ℕ)
+      (capabilities : List Cap) (at : Moment) (session : List ℕ) →
+      legal config (with_entry history caller (change.Bound request slot named capabilities at))
+      ≡ true →
+      live (with_entry history caller (change.Bound request slot named capabilities at)) session
+      ≡ (if bytes_eq named session
+      then Some (record {
+        session = named;
+        slot = slot;
+        address = address_of history slot.node;
+        binding = request;
+      })
+      else live history session)
+  pub ended : (history : List Entry) (caller binding : ℕ) (ending : EndCause) (at : Moment)
+      (session : List ℕ) →
+      live (with_entry history caller (change.Ended binding ending at)) session
+      ≡ (if is_binding binding (live history session) then None else live history session)
+  pub lapsed : (history : List Entry) (caller node : ℕ) (at : Moment) (session : List ℕ) →
+      legal config history ≡ true →
+      live (with_entry history caller (change.Lapsed node at)) session
+      ≡ (if is_at_node node (live history session) then None else live history session)
+  pub others : (history : List Entry) (caller : ℕ) (new : Change) (session : List ℕ) →
+      ((binding : ℕ) → live_told binding history new ≡ None) →
+      live (with_entry history caller new) session ≡ live history session
 
 -- when a binding was last active
 pub record ActiveMoves : Type 0 where
-  pub bound : (H : List Entry) (k r b : ℕ) (t : SlotId) (x : List ℕ) (caps : List Cap) (at : Moment) → active (with_entry H k (change.Bound r t x caps at)) b ≡ cond (nat_eq r b) at.0 (active H b)
-  pub touched : (H : List Entry) (k q b : ℕ) (at : Moment) → active (with_entry H k (change.Touched q at)) b ≡ cond (nat_eq q b) at.0 (active H b)
-  pub others : (H : List Entry) (k b : ℕ) (c : Change) → active_told b c ≡ None → active (with_entry H k c) b ≡ active H b
+  pub bound : (history : List Entry) (caller request binding : ℕ) (slot : SlotId)
+      (session : List ℕ) (capabilities : List Cap) (at : Moment) →
+      active (with_entry history caller (change.Bound request slot session capabilities at)) binding
+      ≡ (if nat_eq request binding then at.0 else active history binding)
+  pub touched : (history : List Entry) (caller named binding : ℕ) (at : Moment) →
+      active (with_entry history caller (change.Touched named at)) binding
+      ≡ (if nat_eq named binding then at.0 else active history binding)
+  pub others : (history : List Entry) (caller binding : ℕ) (new : Change) →
+      active_told binding new ≡ None →
+      active (with_entry history caller new) binding ≡ active history binding
 
--- the changes of the published map
-pub record PublishedMoves (c : HubConfig) : Type 0 where
-  pub bound : (H : List Entry) (k r : ℕ) (t : SlotId) (x : List ℕ) (caps : List Cap) (at : Moment) →
-      changes (with_entry H k (change.Bound r t x caps at)) ≡ put (record { session = x; slot = t; address = address_of H t.node; binding = r }) ∷ changes H
-  pub ended : (H : List Entry) (k : ℕ) (x : Running) (e : EndCause) (at : Moment) → IsRunning H x → changes (with_entry H k (change.Ended x.binding e at)) ≡ removal x.session ∷ changes H
-  pub lapsed : (H : List Entry) (k n : ℕ) (at : Moment) → changes (with_entry H k (change.Lapsed n at)) ≡ published (changes H) (map (λ x. removal x) (sessions_on H n))
-  pub others : (H : List Entry) (k : ℕ) (d : Change) → published_by H d ≡ [] → changes (with_entry H k d) ≡ changes H
+-- the published map's changes
+pub record PublishedMoves (config : HubConfig) : Type 0 where
+  pub bound : (history : List Entry) (caller request : ℕ) (slot : SlotId) (session : List ℕ)
+      (capabilities : List Cap) (at : Moment) →
+      changes (with_entry history caller (change.Bound request slot session capabilities at))
+      ≡ put (record {
+        session = session;
+        slot = slot;
+        address = address_of history slot.node;
+        binding = request;
+      })
+      ∷ changes history
+  pub ended : (history : List Entry) (caller : ℕ) (running : Running) (ending : EndCause)
+      (at : Moment) →
+      IsRunning history running →
+      changes (with_entry history caller (change.Ended running.binding ending at))
+      ≡ removal running.session ∷ changes history
+  pub lapsed : (history : List Entry) (caller node : ℕ) (at : Moment) →
+      changes (with_entry history caller (change.Lapsed node at))
+      ≡ published (changes history) (map (λ session. removal session) (sessions_on history node))
+  pub others : (history : List Entry) (caller : ℕ) (new : Change) →
+      published_by history new ≡ [] → changes (with_entry history caller new) ≡ changes history
   -- the sessions of a node are those that run in its slots
-  pub running : (H : List Entry) (s : SlotId) (x : List ℕ) → legal c H ≡ true → (session_in (holder H s) ≡ Some x) ↔ ((y : Running) × IsRunning H y × (y.slot ≡ s) × (y.session ≡ x))
+  pub running : (history : List Entry) (slot : SlotId) (session : List ℕ) →
+      legal config history ≡ true →
+      (session_in (holder history slot) ≡ Some session)
+      ↔ ((running : Running) × IsRunning history running × (running.slot ≡ slot)
+      × (running.session ≡ session))
 
--- all of the numbers but q
+-- all of the numbers but this one
 abbrev pub all_but : ℕ → List ℕ → List ℕ
-all_but q = filter (λ r. not (nat_eq q r))
+all_but number = filter (λ other. not (nat_eq number other))
 
--- each kind of entry that a request has, and what it does to the list
-pub record QueueMoves (c : HubConfig) : Type 0 where
-  pub queued : (H : List Entry) (k q : ℕ) (choices : List (List Cap)) (d at : Moment) → legal c H ≡ true → permitted c H k (change.Queued q choices d at) ≡ true → unsettled (with_entry H k (change.Queued q choices d at)) ≡ unsettled H ++ q ∷ []
-  pub reserved : (H : List Entry) (k q : ℕ) (t : SlotId) (choice : ℕ) (at : Moment) → permitted c H k (change.Reserved q t choice at) ≡ true → unsettled (with_entry H k (change.Reserved q t choice at)) ≡ unsettled H
-  pub bound : (H : List Entry) (k q : ℕ) (t : SlotId) (x : List ℕ) (caps : List Cap) (at : Moment) → permitted c H k (change.Bound q t x caps at) ≡ true → unsettled (with_entry H k (change.Bound q t x caps at)) ≡ all_but q (unsettled H)
-  pub failed_last : (H : List Entry) (k q : ℕ) (t : SlotId) (w : FailWhy) (o : Option (List ℕ)) (at : Moment) → legal c H ≡ true → permitted c H k (change.Failed q t w o true at) ≡ true →
-      unsettled (with_entry H k (change.Failed q t w o true at)) ≡ all_but q (unsettled H)
-  pub failed : (H : List Entry) (k q : ℕ) (t : SlotId) (w : FailWhy) (o : Option (List ℕ)) (at : Moment) → legal c H ≡ true → permitted c H k (change.Failed q t w o false at) ≡ true →
-      unsettled (with_entry H k (change.Failed q t w o false at)) ≡ unsettled H
-  pub timed_out : (H : List Entry) (k q : ℕ) (at : Moment) → permitted c H k (change.TimedOut q at) ≡ true → unsettled (with_entry H k (change.TimedOut q at)) ≡ all_but q (unsettled H)
-  pub cleared : (H : List Entry) (k q : ℕ) (at : Moment) → permitted c H k (change.Cleared q at) ≡ true → unsettled (with_entry H k (change.Cleared q at)) ≡ all_but q (unsettled H)
-  pub taken : (H : List Entry) (k q : ℕ) (at : Moment) → legal c H ≡ true → permitted c H k (change.Taken q at) ≡ true → unsettled (with_entry H k (change.Taken q at)) ≡ unsettled H
+-- the requests that are not settled
+pub record QueueMoves (config : HubConfig) : Type 0 where
+  pub queued : (history : List Entry) (caller request : ℕ) (choices : List (List Cap))
+      (deadline at : Moment) →
+      legal config history ≡ true →
+      permitted config history caller (change.Queued request choices deadline at) ≡ true →
+      unsettled (with_entry history caller (change.Queued request choices deadline at))
+      ≡ unsettled history ++ request ∷ []
+  pub reserved : (history : List Entry) (caller request : ℕ) (slot : SlotId) (choice : ℕ)
+      (at : Moment) →
+      permitted config history caller (change.Reserved request slot choice at) ≡ true →
+      unsettled (with_entry history caller (change.Reserved request slot choice at))
+      ≡ unsettled history
+  pub bound : (history : List Entry) (caller request : ℕ) (slot : SlotId) (session : List ℕ)
+      (capabilities : List Cap) (at : Moment) →
+      permitted config history caller (change.Bound request slot session capabilities at) ≡ true →
+      unsettled (with_entry history caller (change.Bound request slot session capabilities at))
+      ≡ all_but request (unsettled history)
+  pub failed_last : (history : List Entry) (caller request : ℕ) (slot : SlotId)
+      (reason : FailWhy) (orphan : Option (List ℕ)) (at : Moment) →
+      legal config history ≡ true →
+      permitted config history caller (change.Failed request slot reason orphan true at) ≡ true →
+      unsettled (with_entry history caller (change.Failed request slot reason orphan true at))
+      ≡ all_but request (unsettled history)
+  pub failed : (history : List Entry) (caller request : ℕ) (slot : SlotId) (reason : FailWhy)
+      (orphan : Option (List ℕ)) (at : Moment) →
+      legal config history ≡ true →
+      permitted config history caller (change.Failed request slot reason orphan false at) ≡ true →
+      unsettled (with_entry history caller (change.Failed request slot reason orphan false at))
+      ≡ unsettled history
+  pub timed_out : (history : List Entry) (caller request : ℕ) (at : Moment) →
+      permitted config history caller (change.TimedOut request at) ≡ true →
+      unsettled (with_entry history caller (change.TimedOut request at))
+      ≡ all_but request (unsettled history)
+  pub cleared : (history : List Entry) (caller request : ℕ) (at : Moment) →
+      permitted config history caller (change.Cleared request at) ≡ true →
+      unsettled (with_entry history caller (change.Cleared request at))
+      ≡ all_but request (unsettled history)
+  pub taken : (history : List Entry) (caller request : ℕ) (at : Moment) →
+      legal config history ≡ true →
+      permitted config history caller (change.Taken request at) ≡ true →
+      unsettled (with_entry history caller (change.Taken request at)) ≡ unsettled history
 
 -- nodes and requests are numbered one by one, from the first number on
-pub record NumberedOneByOne (c : HubConfig) : Type 0 where
-  pub of_nodes : (H : List Entry) → legal c H ≡ true → nodes H ≡ numbers_from c.first_node (length (nodes H))
-  pub of_requests : (H : List Entry) → legal c H ≡ true → requests H ≡ numbers_from c.first_request (length (requests H))
+pub record NumberedOneByOne (config : HubConfig) : Type 0 where
+  pub of_nodes : (history : List Entry) → legal config history ≡ true →
+      nodes history ≡ numbers_from config.first_node (length (nodes history))
+  pub of_requests : (history : List Entry) → legal config history ≡ true →
+      requests history ≡ numbers_from config.first_request (length (requests history))

@@ -17,40 +17,49 @@ use Rattle.grid_types.specs.Requests.{waiting_requests, deadline_of, choices_of,
 -- a slot's state, which does not show for whom it is held
 abbrev pub state_of : Holder → SlotState
 state_of free = state.Free
-state_of (held r) = state.Held
-state_of (busy x) = state.Busy x
+state_of (held request) = state.Held
+state_of (busy session) = state.Busy session
 state_of closing = state.Closing
 
--- shown for a node that never registered, of which no view speaks
+-- what stands for the registration of a node that never registered; no view speaks of one
 abbrev pub no_registration : Registration
-no_registration = record { name = []; address = []; max_sessions = 0; groups = []; drain_after = None }
+no_registration = record {
+  name = [];
+  address = [];
+  max_sessions = 0;
+  groups = [];
+  drain_after = None;
+}
 
 -- a node with its standing and the state of each slot
 abbrev pub node_view : List Entry → ℕ → NodeView
-node_view H n = record {
-  node = n;
-  registration = unwrap_or (registration_of H n) no_registration;
-  standing = unwrap_or (standing_of H n) standing.Gone;
-  slots = map (λ s. state_of (holder H s)) (slots_of H n);
+node_view history node = record {
+  node = node;
+  registration = unwrap_or (registration_of history node) no_registration;
+  standing = unwrap_or (standing_of history node) standing.Gone;
+  slots = map (λ slot. state_of (holder history slot)) (slots_of history node);
 }
 
 -- a waiting request with its deadline and its size
 abbrev pub wait_view : List Entry → ℕ → WaitView
-wait_view H r = record {
-  request = r;
-  deadline = record { 0 = deadline_of H r };
-  choices = length (choices_of H r);
-  bytes = bytes_of H r;
+wait_view history request = record {
+  request = request;
+  deadline = record { 0 = deadline_of history request };
+  choices = length (choices_of history request);
+  bytes = bytes_of history request;
 }
 
--- an Up node below its max has a free slot
+-- the node is Up and below its most sessions, and has a free slot
 abbrev pub is_ready : List Entry → ℕ → Bool
-is_ready H n = is_up H n && nat_lt (load H n) (max_of H n) && list_any (λ s. is_free (holder H s)) (slots_of H n)
+is_ready history node =
+    is_up history node
+    && nat_lt (load history node) (max_of history node)
+    && list_any (λ slot. is_free (holder history slot)) (slots_of history node)
 
--- the listed nodes and the waiting requests, by number
+-- whether some node is ready, the listed nodes and the waiting requests, both by number
 unfoldable pub view_of : List Entry → View
-view_of H = record {
-  ready = list_any (is_ready H) (nodes H);
-  nodes = map (node_view H) (listed H);
-  waiting = map (wait_view H) (waiting_requests H);
+view_of history = record {
+  ready = list_any (is_ready history) (nodes history);
+  nodes = map (node_view history) (listed history);
+  waiting = map (wait_view history) (waiting_requests history);
 }

@@ -13,7 +13,7 @@ use Rattle.grid_types.specs.declared.capabilities.Cap.{Cap}
 use Rattle.grid_types.specs.declared.capabilities.Registration.{Registration}
 use Rattle.grid_types.specs.declared.config.HubConfig.{HubConfig}
 use Rattle.grid_types.specs.Lists.{when}
-use Rattle.grid_types.specs.declared.limits.TheConstants.{MOST_DRAIN_AFTER}
+use Rattle.grid_types.specs.declared.limits.TheConstants.{LAST_MOMENT, MOST_CHOICES, MOST_DRAIN_AFTER, MOST_NODES, MOST_QUEUE_BYTES, MOST_SESSIONS, MOST_SLOTS}
 use Rattle.grid_types.specs.Capabilities.{request_bytes}
 use Rattle.grid_types.specs.QueueTime.{queue_time}
 use Rattle.grid_types.specs.Matching.{meets}
@@ -25,26 +25,28 @@ use Rattle.grid_types.specs.Sessions.{is_live, is_live_session, active}
 use Rattle.grid_types.specs.Fit.{serves}
 use Rattle.grid_types.specs.Choice.{Assignment, chosen}
 
--- the most that a moment and a queue's bytes may be
+-- the last moment that the hub sets a deadline to
 abbrev pub last_moment : ℕ
-last_moment = 2 ^ 62 - 1
+last_moment = LAST_MOMENT
 
 -- the most bytes of all requests that are not settled
 abbrev pub most_bytes : ℕ
-most_bytes = 268_435_456
+most_bytes = MOST_QUEUE_BYTES
 
--- the node has this name
+-- there is a registration, and it has this name
 abbrev pub has_name : List ℕ → Option Registration → Bool
 has_name name None = false
-has_name name (Some r) = bytes_eq r.name name
+has_name name (Some registration) = bytes_eq registration.name name
 
--- a registered node has the name
+-- the node is registered under the name
 abbrev pub is_named : List Entry → List ℕ → ℕ → Bool
-is_named H name n = is_registered H n && has_name name (registration_of H n)
+is_named history name node =
+    is_registered history node
+    && has_name name (registration_of history node)
 
--- some registered node has the name
+-- some node is registered under the name
 abbrev pub is_name_taken : List Entry → List ℕ → Bool
-is_name_taken H name = list_any (is_named H name) (nodes H)
+is_name_taken history name = list_any (is_named history name) (nodes history)
 
 -- absent, or from 1 to 1,000,000
 abbrev pub is_drain_count : Option ℕ → Bool
@@ -53,58 +55,75 @@ is_drain_count (Some count) = nat_le 1 count && nat_le count MOST_DRAIN_AFTER
 
 -- 1 to 64 slots, 1 to 64 sessions at most, and a count to drain after within its limits
 abbrev pub is_well_sized : Registration → Bool
-is_well_sized r =
-    nat_le 1 (length (stereotypes r.groups)) && nat_le (length (stereotypes r.groups)) 64
-    && nat_le 1 r.max_sessions && nat_le r.max_sessions 64 && is_drain_count r.drain_after
+is_well_sized registration =
+    nat_le 1 (length (stereotypes registration.groups))
+    && nat_le (length (stereotypes registration.groups)) MOST_SLOTS
+    && nat_le 1 registration.max_sessions
+    && nat_le registration.max_sessions MOST_SESSIONS
+    && is_drain_count registration.drain_after
 
 -- a slot of a registered node matches a choice
 abbrev pub is_supported : List Entry → List (List Cap) → Bool
-is_supported H choices = list_any (λ n. is_registered H n && serves H n choices) (nodes H)
+is_supported history choices =
+    list_any (λ node. is_registered history node && serves history node choices) (nodes history)
 
 -- the deadline of a request of these choices that is queued at the moment
 abbrev pub deadline_at : HubConfig → List (List Cap) → ℕ → ℕ
-deadline_at c choices moment = min (moment + queue_time c choices) last_moment
+deadline_at config choices moment = min (moment + queue_time config choices) last_moment
 
--- the bytes of the queue with this request would be within the limit
+-- the queue has room for one more request of these choices, by its count and by its bytes
 abbrev pub has_room : HubConfig → List Entry → List (List Cap) → Bool
-has_room c H choices =
-    nat_lt (length (unsettled H)) c.queue_requests && nat_le (unsettled_bytes H + request_bytes choices) most_bytes
+has_room config history choices =
+    nat_lt (length (unsettled history)) config.queue_requests
+    && nat_le (unsettled_bytes history + request_bytes choices) most_bytes
 
--- the assignment is this one
+-- there is an assignment, and it is this one
 abbrev pub is_assignment : ℕ → ℕ → SlotId → Option Assignment → Bool
-is_assignment r k s None = false
-is_assignment r k s (Some a) = nat_eq a.request r && nat_eq a.choice k && slot_eq a.slot s
+is_assignment request choice slot None = false
+is_assignment request choice slot (Some assignment) =
+    nat_eq assignment.request request
+    && nat_eq assignment.choice choice
+    && slot_eq assignment.slot slot
 
--- the choice that a slot was reserved with last
+-- the choice that a change reserves the slot with
 abbrev pub reserved_choice_told : SlotId → Change → Option ℕ
-reserved_choice_told s (change.Reserved r t k at) = when (slot_eq t s) k
-reserved_choice_told s c = None
+reserved_choice_told slot (change.Reserved request named choice at) =
+    when (slot_eq named slot) choice
+reserved_choice_told slot other = None
 
--- the choice that the slot's last reservation named
+-- the choice that the slot's last reservation named, 0 where there is none
 abbrev pub reserved_choice : List Entry → SlotId → ℕ
-reserved_choice H s = unwrap_or (last_told (λ _ e. reserved_choice_told s e.change) H) 0
+reserved_choice history slot =
+    unwrap_or (last_told (λ _ entry. reserved_choice_told slot entry.change) history) 0
 
 -- the capabilities that a reservation wants
 abbrev pub wanted_of : List Entry → ℕ → SlotId → List Cap
-wanted_of H r s = choice_of H r (reserved_choice H s)
+wanted_of history request slot = choice_of history request (reserved_choice history slot)
 
--- the caller is this one
+-- there is a caller, and it is this one
 abbrev pub is_caller : ℕ → Option ℕ → Bool
-is_caller k None = false
-is_caller k (Some caller) = nat_eq caller k
+is_caller caller None = false
+is_caller caller (Some found) = nat_eq found caller
 
 -- the caller has the slot for the request
 abbrev pub has_slot : List Entry → ℕ → ℕ → SlotId → Bool
-has_slot H caller r s = is_held_by r (holder H s) && is_caller caller (owner H s)
+has_slot history caller request slot =
+    is_held_by request (holder history slot) && is_caller caller (owner history slot)
 
--- another node that was not drained and is not barred for the request has a slot that matches a choice of it; a suspect
--- node is one, since it may come back
+-- the node may be tried after a failure on the slot: another node of base Up, not barred for the
+-- request, with a slot that matches a choice of it; it may be suspect, since it may come back
 abbrev pub is_alternative : List Entry → ℕ → SlotId → ℕ → Bool
-is_alternative H r s n = is_base_up H n && not (is_barred H r n) && not (nat_eq n s.node) && serves H n (choices_of H r)
+is_alternative history request slot node =
+    is_base_up history node
+    && not (is_barred history request node)
+    && not (nat_eq node slot.node)
+    && serves history node (choices_of history request)
 
 -- a failure on the slot settles the request: it is not settled yet, and there is no alternative
 unfoldable pub is_last : List Entry → ℕ → SlotId → Bool
-is_last H r s = not (is_settled H r) && not (list_any (is_alternative H r s) (nodes H))
+is_last history request slot =
+    not (is_settled history request)
+    && not (list_any (is_alternative history request slot) (nodes history))
 
 -- a start that failed at the node or on the way to it
 abbrev pub is_start_failure : FailWhy → Bool
@@ -113,59 +132,117 @@ is_start_failure why.Unreachable = true
 is_start_failure why.NotHttp = true
 is_start_failure why.BadReply = true
 is_start_failure why.NoMemory = true
-is_start_failure w = false
+is_start_failure other = false
 
--- the hub did not keep a session that the node had started, for the first of four causes
+-- the cause may be given for a session that the node had started and the hub does not keep: late,
+-- then gone, then a duplicate, then a mismatch, each where none before it holds
 abbrev pub is_refusal : List Entry → ℕ → SlotId → List ℕ → FailWhy → Bool
-is_refusal H r s x why.Late = is_settled H r
-is_refusal H r s x why.NodeGone = not (is_settled H r) && not (is_registered H s.node)
-is_refusal H r s x why.Duplicate = not (is_settled H r) && is_registered H s.node && is_live_session H x
-is_refusal H r s x why.Mismatch = not (is_settled H r) && is_registered H s.node && not (is_live_session H x)
-is_refusal H r s x w = false
+is_refusal history request slot session why.Late = is_settled history request
+is_refusal history request slot session why.NodeGone =
+    not (is_settled history request)
+    && not (is_registered history slot.node)
+is_refusal history request slot session why.Duplicate =
+    not (is_settled history request)
+    && is_registered history slot.node
+    && is_live_session history session
+is_refusal history request slot session why.Mismatch =
+    not (is_settled history request)
+    && is_registered history slot.node
+    && not (is_live_session history session)
+is_refusal history request slot session reason = false
 
 -- the cause is one of a start without a session, or of one whose session is not kept
 abbrev pub is_failure : List Entry → ℕ → SlotId → Option (List ℕ) → FailWhy → Bool
-is_failure H r s None w = is_start_failure w
-is_failure H r s (Some x) w = is_refusal H r s x w
+is_failure history request slot None reason = is_start_failure reason
+is_failure history request slot (Some session) reason =
+    is_refusal history request slot session reason
 
 -- both or neither
 abbrev pub bool_eq : Bool → Bool → Bool
-bool_eq true b = b
-bool_eq false b = not b
+bool_eq true other = other
+bool_eq false other = not other
 
 -- the caller queued the request
 abbrev pub is_asker : List Entry → ℕ → ℕ → Bool
-is_asker H k r = is_caller k (option_map (λ a. a.caller) (asked_of H r))
+is_asker history caller request =
+    is_caller caller (option_map (λ asked. asked.caller) (asked_of history request))
 
 -- the session may end for this cause
 abbrev pub may_end : HubConfig → List Entry → ℕ → EndCause → ℕ → Bool
-may_end c H b cause.Quit moment = true
-may_end c H b cause.Idle moment = nat_le c.idle_ms (moment - active H b)
+may_end config history binding cause.Quit moment = true
+may_end config history binding cause.Idle moment =
+    nat_le config.idle_ms (moment - active history binding)
 
--- the change may follow the history, made by the caller
+-- the change, made by the caller, may follow the history
 unfoldable pub permitted : HubConfig → List Entry → ℕ → Change → Bool
-permitted c H k (change.Registered n r at) =
-    nat_le (clock H) at.0 && nat_eq n (next_node c H) && nat_lt n (2 ^ 32 - 1) && not (is_name_taken H r.name)
-    && nat_lt (length (listed H)) 1_024 && is_well_sized r
-permitted c H k (change.Beaten n at) = nat_le (clock H) at.0 && is_registered H n
-permitted c H k (change.Removed n at) = nat_le (clock H) at.0 && is_registered H n
-permitted c H k (change.Draining n at) = nat_le (clock H) at.0 && is_base_up H n
-permitted c H k (change.Lapsed n at) = nat_le (clock H) at.0 && is_registered H n && nat_le c.down_ms (at.0 - beat_of H n)
-permitted c H k (change.Queued r choices deadline at) =
-    nat_le (clock H) at.0 && nat_eq r (next_request c H) && nat_lt r (2 ^ 64 - 1)
-    && nat_le 1 (length choices) && nat_le (length choices) 64 && nat_eq deadline.0 (deadline_at c choices at.0)
-    && has_room c H choices && (not c.reject_unsupported || is_supported H choices)
-permitted c H k (change.Reserved r s choice at) = nat_le (clock H) at.0 && is_assignment r choice s (chosen H at.0)
-permitted c H k (change.Bound r s x caps at) =
-    nat_le (clock H) at.0 && is_held (place H r) && has_slot H k r s && is_registered H s.node
-    && not (is_live_session H x) && meets (wanted_of H r s) caps
-permitted c H k (change.Failed r s w orphan last at) =
-    nat_le (clock H) at.0 && has_slot H k r s && is_failure H r s orphan w && bool_eq last (is_last H r s)
-permitted c H k (change.TimedOut r at) = nat_le (clock H) at.0 && is_unsettled (place H r) && nat_le (deadline_of H r) at.0
-permitted c H k (change.Cleared r at) = nat_le (clock H) at.0 && is_waiting (place H r)
-permitted c H k (change.Taken r at) = nat_le (clock H) at.0 && is_settled H r && not (is_taken H r) && is_asker H k r
-permitted c H k (change.Touched b at) = nat_le (clock H) at.0 && is_live H b
-permitted c H k (change.Ended b e at) = nat_le (clock H) at.0 && is_live H b && may_end c H b e at.0
-permitted c H k (change.Freed s) = is_closing (holder H s) && is_caller k (owner H s)
-permitted c H k (change.Suspected n at) =
-    nat_le (clock H) at.0 && is_registered H n && not (is_suspect H n) && nat_le c.lapse_ms (at.0 - beat_of H n)
+permitted config history caller (change.Registered node registration at) =
+    nat_le (clock history) at.0
+    && nat_eq node (next_node config history)
+    && nat_lt node (2 ^ 32 - 1)
+    && not (is_name_taken history registration.name)
+    && nat_lt (length (listed history)) MOST_NODES
+    && is_well_sized registration
+permitted config history caller (change.Beaten node at) =
+    nat_le (clock history) at.0
+    && is_registered history node
+permitted config history caller (change.Removed node at) =
+    nat_le (clock history) at.0
+    && is_registered history node
+permitted config history caller (change.Draining node at) =
+    nat_le (clock history) at.0
+    && is_base_up history node
+permitted config history caller (change.Lapsed node at) =
+    nat_le (clock history) at.0
+    && is_registered history node
+    && nat_le config.down_ms (at.0 - beat_of history node)
+permitted config history caller (change.Queued request choices deadline at) =
+    nat_le (clock history) at.0
+    && nat_eq request (next_request config history)
+    && nat_lt request (2 ^ 64 - 1)
+    && nat_le 1 (length choices)
+    && nat_le (length choices) MOST_CHOICES
+    && nat_eq deadline.0 (deadline_at config choices at.0)
+    && has_room config history choices
+    && (not config.reject_unsupported || is_supported history choices)
+permitted config history caller (change.Reserved request slot choice at) =
+    nat_le (clock history) at.0
+    && is_assignment request choice slot (chosen history at.0)
+permitted config history caller (change.Bound request slot session capabilities at) =
+    nat_le (clock history) at.0
+    && is_held (place history request)
+    && has_slot history caller request slot
+    && is_registered history slot.node
+    && not (is_live_session history session)
+    && meets (wanted_of history request slot) capabilities
+permitted config history caller (change.Failed request slot reason orphan last at) =
+    nat_le (clock history) at.0
+    && has_slot history caller request slot
+    && is_failure history request slot orphan reason
+    && bool_eq last (is_last history request slot)
+permitted config history caller (change.TimedOut request at) =
+    nat_le (clock history) at.0
+    && is_unsettled (place history request)
+    && nat_le (deadline_of history request) at.0
+permitted config history caller (change.Cleared request at) =
+    nat_le (clock history) at.0
+    && is_waiting (place history request)
+permitted config history caller (change.Taken request at) =
+    nat_le (clock history) at.0
+    && is_settled history request
+    && not (is_taken history request)
+    && is_asker history caller request
+permitted config history caller (change.Touched binding at) =
+    nat_le (clock history) at.0
+    && is_live history binding
+permitted config history caller (change.Ended binding ending at) =
+    nat_le (clock history) at.0
+    && is_live history binding
+    && may_end config history binding ending at.0
+permitted config history caller (change.Freed slot) =
+    is_closing (holder history slot)
+    && is_caller caller (owner history slot)
+permitted config history caller (change.Suspected node at) =
+    nat_le (clock history) at.0
+    && is_registered history node
+    && not (is_suspect history node)
+    && nat_le config.lapse_ms (at.0 - beat_of history node)

@@ -1,4 +1,5 @@
--- Safe histories: no slot holds two sessions and no session two slots, and each request is settled and taken once at most.
+-- Safe histories: no slot holds two sessions and no session two slots, and each request is settled
+-- and taken once at most.
 use Rattle.std.specs.Prelude.{ℕ, ◌≤◌, ◌≡◌, ◌≢◌, true, List, ◌∷◌, ◌++◌, is_some, Contains}
 use Rattle.grid_types.specs.declared.entry.Entry.{Entry}
 use Rattle.grid_types.specs.declared.entry.Change.{Change}
@@ -14,54 +15,72 @@ use Rattle.grid_types.specs.Sessions.{IsRunning}
 
 -- a change reserves the slot
 abbrev pub reserves_slot : SlotId → Change → Type 0
-reserves_slot s (change.Reserved r t k at) = t ≡ s
-reserves_slot s c = ⊥
+reserves_slot slot (change.Reserved request named choice at) = named ≡ slot
+reserves_slot slot other = ⊥
 
 -- a change settles the request
 abbrev pub settles : ℕ → Change → Type 0
-settles r (change.Bound q s x cs at) = q ≡ r
-settles r (change.Failed q s w o last at) = (q ≡ r) × (last ≡ true)
-settles r (change.TimedOut q at) = q ≡ r
-settles r (change.Cleared q at) = q ≡ r
-settles r c = ⊥
+settles request (change.Bound named slot session capabilities at) = named ≡ request
+settles request (change.Failed named slot reason orphan last at) = (named ≡ request) × (last ≡ true)
+settles request (change.TimedOut named at) = named ≡ request
+settles request (change.Cleared named at) = named ≡ request
+settles request other = ⊥
 
 -- a change hands the request's outcome out
 abbrev pub takes : ℕ → Change → Type 0
-takes r (change.Taken q at) = q ≡ r
-takes r c = ⊥
+takes request (change.Taken named at) = named ≡ request
+takes request other = ⊥
 
--- what holds of each change and the entries before it: it meets a choice, and comes in time
+-- the capabilities of a Bound meet a choice that its request asked for
 abbrev pub MeetsChoice : List Entry → Change → Type 0
-MeetsChoice H (change.Bound r s x caps at) = (wanted : List Cap) × Contains (choices_of H r) wanted × (meets wanted caps ≡ true)
-MeetsChoice H c = Unit {0}
+MeetsChoice history (change.Bound request slot session capabilities at) =
+    (wanted : List Cap) × Contains (choices_of history request) wanted
+    × (meets wanted capabilities ≡ true)
+MeetsChoice history other = Unit {0}
 
 -- a time-out comes at the deadline or after it
 abbrev pub IsInTime : List Entry → Change → Type 0
-IsInTime H (change.TimedOut r at) = deadline_of H r ≤ at.0
-IsInTime H c = Unit {0}
+IsInTime history (change.TimedOut request at) = deadline_of history request ≤ at.0
+IsInTime history other = Unit {0}
 
--- what is said of a history
-pub record IsSafeNow (H : List Entry) : Type 0 where
+-- what is said of a history at one time
+pub record IsSafeNow (history : List Entry) : Type 0 where
   -- between two reservations of one slot stands an entry after which the slot is free
-  pub freed_between : (s : SlotId) (newer between older : List Entry) (f g : Entry) →
-      newer ++ (f ∷ (between ++ (g ∷ older))) ≡ H → reserves_slot s f.change → reserves_slot s g.change →
-      (later earlier : List Entry) × (e : Entry) × (later ++ (e ∷ earlier) ≡ between) × (holder (e ∷ (earlier ++ (g ∷ older))) s ≡ free)
-  -- two live bindings have different slots and different sessions, and the slot of one is busy with its session
-  pub different : (a b : Running) → IsRunning H a → IsRunning H b → a.binding ≢ b.binding → (a.slot ≢ b.slot) × (a.session ≢ b.session)
-  pub busy_slot : (a : Running) → IsRunning H a → holder H a.slot ≡ busy a.session
-  -- a request has one settling entry at most, behind its Queued
-  pub settled_once : (r : ℕ) (newer between older : List Entry) (f g : Entry) →
-      newer ++ (f ∷ (between ++ (g ∷ older))) ≡ H → settles r f.change → settles r g.change → ⊥
-  pub settled_after : (r : ℕ) (newer older : List Entry) (e : Entry) → newer ++ (e ∷ older) ≡ H → settles r e.change → is_some (asked_of older r) ≡ true
-  -- and one Taken at most, behind its Queued
-  pub taken_once : (r : ℕ) (newer between older : List Entry) (f g : Entry) →
-      newer ++ (f ∷ (between ++ (g ∷ older))) ≡ H → takes r f.change → takes r g.change → ⊥
-  pub taken_after : (r : ℕ) (newer older : List Entry) (e : Entry) → newer ++ (e ∷ older) ≡ H → takes r e.change → is_some (asked_of older r) ≡ true
+  pub freed_between : (slot : SlotId) (newer between older : List Entry) (last first : Entry) →
+      newer ++ (last ∷ (between ++ (first ∷ older))) ≡ history → reserves_slot slot last.change →
+      reserves_slot slot first.change →
+      (later earlier : List Entry) × (entry : Entry) × (later ++ (entry ∷ earlier) ≡ between)
+      × (holder (entry ∷ (earlier ++ (first ∷ older))) slot ≡ free)
+  -- two live bindings have different slots and different sessions
+  pub different : (first second : Running) → IsRunning history first → IsRunning history second →
+      first.binding ≢ second.binding →
+      (first.slot ≢ second.slot) × (first.session ≢ second.session)
+  -- the slot of a live binding is busy with its session
+  pub busy_slot : (running : Running) → IsRunning history running →
+      holder history running.slot ≡ busy running.session
+  -- a request has one settling entry at most
+  pub settled_once : (request : ℕ) (newer between older : List Entry) (last first : Entry) →
+      newer ++ (last ∷ (between ++ (first ∷ older))) ≡ history → settles request last.change →
+      settles request first.change → ⊥
+  -- and that comes after its Queued
+  pub settled_after : (request : ℕ) (newer older : List Entry) (entry : Entry) →
+      newer ++ (entry ∷ older) ≡ history → settles request entry.change →
+      is_some (asked_of older request) ≡ true
+  -- a request has one Taken at most
+  pub taken_once : (request : ℕ) (newer between older : List Entry) (last first : Entry) →
+      newer ++ (last ∷ (between ++ (first ∷ older))) ≡ history → takes request last.change →
+      takes request first.change → ⊥
+  -- and that comes after its Queued
+  pub taken_after : (request : ℕ) (newer older : List Entry) (entry : Entry) →
+      newer ++ (entry ∷ older) ≡ history → takes request entry.change →
+      is_some (asked_of older request) ≡ true
   -- the capabilities of a Bound meet a choice of its request
-  pub meets_choice : (newer older : List Entry) (e : Entry) → newer ++ (e ∷ older) ≡ H → MeetsChoice older e.change
+  pub meets_choice : (newer older : List Entry) (entry : Entry) →
+      newer ++ (entry ∷ older) ≡ history → MeetsChoice older entry.change
   -- a TimedOut comes at its request's deadline or past it
-  pub in_time : (newer older : List Entry) (e : Entry) → newer ++ (e ∷ older) ≡ H → IsInTime older e.change
+  pub in_time : (newer older : List Entry) (entry : Entry) →
+      newer ++ (entry ∷ older) ≡ history → IsInTime older entry.change
 
 -- safe, and so was every history that it began with
 abbrev pub IsSafe : List Entry → Type 0
-IsSafe H = (P : List Entry) → BeginsWith H P → IsSafeNow P
+IsSafe history = (older : List Entry) → BeginsWith history older → IsSafeNow older

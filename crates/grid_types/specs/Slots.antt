@@ -1,5 +1,5 @@
 -- What a history says of a slot: who holds it.
-use Rattle.std.specs.Prelude.{ℕ, Bool, true, false, cond, not, ◌&&◌, ◌||◌, nat_eq, List, [], ◌∷◌, map, length, Option, None, Some, unwrap_or, is_some, filter}
+use Rattle.std.specs.Prelude.{ℕ, Bool, true, false, if◌then◌else◌, not, ◌&&◌, ◌||◌, nat_eq, List, [], ◌∷◌, map, length, Option, None, Some, unwrap_or, is_some, filter}
 use Rattle.std.specs.List.{list_any}
 use Rattle.grid_types.specs.declared.entry.Entry.{Entry}
 use Rattle.grid_types.specs.declared.entry.Change.{Change}
@@ -19,85 +19,97 @@ pub data Holder : Type 0 where
 
 -- two slots are one
 abbrev pub slot_eq : SlotId → SlotId → Bool
-slot_eq a b = nat_eq a.node b.node && nat_eq a.index b.index
+slot_eq first second = nat_eq first.node second.node && nat_eq first.index second.index
 
--- the tests of a holder
+-- it is given to nothing
 abbrev pub is_free : Holder → Bool
 is_free free = true
-is_free h = false
+is_free other = false
 
 -- it runs a session
 abbrev pub is_busy : Holder → Bool
-is_busy (busy x) = true
-is_busy h = false
+is_busy (busy session) = true
+is_busy other = false
 
--- its session has ended and it is not free yet
+-- its session has ended or was not kept, and it is not free yet
 abbrev pub is_closing : Holder → Bool
 is_closing closing = true
-is_closing h = false
+is_closing other = false
 
--- it is held for some request
+-- it is held for a request
 abbrev pub is_held_slot : Holder → Bool
-is_held_slot (held r) = true
-is_held_slot h = false
+is_held_slot (held request) = true
+is_held_slot other = false
 
 -- it is held for this request
 abbrev pub is_held_by : ℕ → Holder → Bool
-is_held_by r (held q) = nat_eq q r
-is_held_by r h = false
+is_held_by request (held named) = nat_eq named request
+is_held_by request other = false
 
--- the slot is this one
+-- there is a slot named, and it is this one
 abbrev pub names_slot : SlotId → Option SlotId → Bool
-names_slot s None = false
-names_slot s (Some t) = slot_eq t s
+names_slot slot None = false
+names_slot slot (Some named) = slot_eq named slot
 
--- the holder that an entry leaves, where it concerns the slot; H is before it, and so is the holder `before`
+-- the holder that a change leaves, where it concerns the slot; the history and the holder `before`
+-- are those before it
 abbrev pub holder_told : List Entry → SlotId → Holder → Change → Option Holder
-holder_told H s before (change.Reserved r t k at) = when (slot_eq t s) (held r)
-holder_told H s before (change.Bound r t x cs at) = when (slot_eq t s) (busy x)
-holder_told H s before (change.Failed r t w o l at) = when (slot_eq t s) (cond (is_some o) closing free)
-holder_told H s before (change.Freed t) = when (slot_eq t s) free
-holder_told H s before (change.Ended b c at) = when (names_slot s (bound_slot H b)) closing
-holder_told H s before (change.Lapsed n at) = when (nat_eq n s.node && is_busy before) free
-holder_told H s before c = None
+holder_told history slot before (change.Reserved request named choice at) =
+    when (slot_eq named slot) (held request)
+holder_told history slot before (change.Bound request named session capabilities at) =
+    when (slot_eq named slot) (busy session)
+holder_told history slot before (change.Failed request named reason orphan last at) =
+    when (slot_eq named slot) (if is_some orphan then closing else free)
+holder_told history slot before (change.Freed named) = when (slot_eq named slot) free
+holder_told history slot before (change.Ended binding ending at) =
+    when (names_slot slot (bound_slot history binding)) closing
+holder_told history slot before (change.Lapsed node at) =
+    when (nat_eq node slot.node && is_busy before) free
+holder_told history slot before other = None
 
--- the holder after an entry: what it leaves, or the holder before
+-- the holder after a change: what it leaves, or the holder before
 abbrev pub holder_after : List Entry → SlotId → Holder → Change → Holder
-holder_after H s before c = unwrap_or (holder_told H s before c) before
+holder_after history slot before new = unwrap_or (holder_told history slot before new) before
 
--- a slot's holder, by the last entry that concerns it
+-- a slot's holder, by the last entry that concerns it; free where there is none
 abbrev pub holder : List Entry → SlotId → Holder
-holder [] s = free
-holder (e ∷ H) s = holder_after H s (holder H s) e.change
+holder [] slot = free
+holder (entry ∷ history) slot = holder_after history slot (holder history slot) entry.change
 
 -- the caller of the last entry that concerns the slot
 abbrev pub owner : List Entry → SlotId → Option ℕ
-owner H s = last_told (λ before e. when (is_some (holder_told before s (holder before s) e.change)) e.caller) H
+owner history slot =
+    last_told
+    (λ before entry.
+    when (is_some (holder_told before slot (holder before slot) entry.change)) entry.caller)
+    history
 
--- a node's slots, and all slots
+-- the node's slot of this number
 abbrev pub slot_at : ℕ → ℕ → SlotId
-slot_at n i = record { node = n; index = i }
+slot_at node index = record { node = node; index = index }
 
--- a node's slots, by their numbers
+-- a node's slots, by number
 abbrev pub slots_of : List Entry → ℕ → List SlotId
-slots_of H n = map (slot_at n) (numbers_from 0 (length (stereotypes_of H n)))
+slots_of history node = map (slot_at node) (numbers_from 0 (length (stereotypes_of history node)))
 
 -- how many slots of a node are not free
 abbrev pub load : List Entry → ℕ → ℕ
-load H n = how_many (λ s. not (is_free (holder H s))) (slots_of H n)
+load history node = how_many (λ slot. not (is_free (holder history slot))) (slots_of history node)
 
 -- how many slots of a node are held
 abbrev pub held_count : List Entry → ℕ → ℕ
-held_count H n = how_many (λ s. is_held_slot (holder H s)) (slots_of H n)
+held_count history node =
+    how_many (λ slot. is_held_slot (holder history slot)) (slots_of history node)
 
 -- some slot of the node is not free
 abbrev pub has_slot_in_use : List Entry → ℕ → Bool
-has_slot_in_use H n = list_any (λ s. not (is_free (holder H s))) (slots_of H n)
+has_slot_in_use history node =
+    list_any (λ slot. not (is_free (holder history slot))) (slots_of history node)
 
 -- a node is registered, or has a slot that is not free
 abbrev pub is_listed : List Entry → ℕ → Bool
-is_listed H n = is_registered H n || has_slot_in_use H n
+is_listed history node = is_registered history node || has_slot_in_use history node
 
 -- the nodes that are listed, by number
 abbrev pub listed : List Entry → List ℕ
-listed H = filter (is_listed H) (nodes H)
+listed history = filter (is_listed history) (nodes history)

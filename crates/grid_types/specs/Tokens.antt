@@ -35,61 +35,66 @@ pub record Closing : Type 0 where
 
 -- what the ticket of a request tells
 abbrev pub ticket_of : List Entry → ℕ → Ticket
-ticket_of H r = record { request = r; deadline = deadline_of H r }
+ticket_of history request = record { request = request; deadline = deadline_of history request }
 
 -- what the reservation of a slot for a request tells
 abbrev pub reservation_of : List Entry → ℕ → SlotId → Reservation
-reservation_of H r s = record {
-  request = r;
-  slot = s;
-  choice = reserved_choice H s;
-  address = address_of H s.node;
-  wanted = wanted_of H r s;
+reservation_of history request slot = record {
+  request = request;
+  slot = slot;
+  choice = reserved_choice history slot;
+  address = address_of history slot.node;
+  wanted = wanted_of history request slot;
 }
 
--- the session runs at the address
+-- there is a running session, and it runs at the address
 abbrev pub runs_at : List ℕ → Option Running → Bool
 runs_at address None = false
-runs_at address (Some r) = bytes_eq r.address address
+runs_at address (Some running) = bytes_eq running.address address
 
--- made by the newest entry of H. The session is to be ended at the node, unless it is live at that very address
+-- what the closing of a slot and its session tells, by the history up to the entry that made it:
+-- the session is to be ended at the node, unless it is live at that very address
 abbrev pub closing_of : List Entry → SlotId → List ℕ → Closing
-closing_of H s x = record {
-  session = x;
-  slot = s;
-  address = address_of H s.node;
-  quit = not (runs_at (address_of H s.node) (live H x));
+closing_of history slot session = record {
+  session = session;
+  slot = slot;
+  address = address_of history slot.node;
+  quit = not (runs_at (address_of history slot.node) (live history session));
 }
 
--- a token is good for a caller: a ticket of a request that the caller queued and that is not taken, a reservation of a slot
--- that the caller has for the request, a closing of a slot that is closing since an entry of the caller
+-- a ticket is good for a caller: the caller queued the request, and it is not taken
 abbrev pub is_good_ticket : List Entry → ℕ → ℕ → Bool
-is_good_ticket H caller r = is_asker H caller r && not (is_taken H r)
+is_good_ticket history caller request =
+    is_asker history caller request && not (is_taken history request)
 
--- the caller has the slot for the request
+-- a reservation is good for a caller: the caller has the slot for the request
 abbrev pub is_good_reservation : List Entry → ℕ → ℕ → SlotId → Bool
-is_good_reservation H caller r s = has_slot H caller r s
+is_good_reservation history caller request slot = has_slot history caller request slot
 
--- the slot is closing since an entry of the caller
+-- a closing is good for a caller: the slot is closing since an entry of the caller
 abbrev pub is_good_closing : List Entry → ℕ → SlotId → Bool
-is_good_closing H caller s = is_closing (holder H s) && is_caller caller (owner H s)
+is_good_closing history caller slot =
+    is_closing (holder history slot) && is_caller caller (owner history slot)
 
--- an entry uses a ticket, a reservation or a closing
+-- a Taken uses a ticket
 abbrev pub takes_request : ℕ → Change → Bool
-takes_request r (change.Taken q at) = nat_eq q r
-takes_request r c = false
+takes_request request (change.Taken named at) = nat_eq named request
+takes_request request other = false
 
--- a bind or a failed start uses a reservation
+-- a Bound or a Failed uses a reservation
 abbrev pub spends_reservation : ℕ → SlotId → Change → Bool
-spends_reservation r s (change.Bound q t x cs at) = nat_eq q r && slot_eq t s
-spends_reservation r s (change.Failed q t w o last at) = nat_eq q r && slot_eq t s
-spends_reservation r s c = false
+spends_reservation request slot (change.Bound named used session capabilities at) =
+    nat_eq named request && slot_eq used slot
+spends_reservation request slot (change.Failed named used reason orphan last at) =
+    nat_eq named request && slot_eq used slot
+spends_reservation request slot other = false
 
 -- a Freed uses a closing
 abbrev pub frees_slot : SlotId → Change → Bool
-frees_slot s (change.Freed t) = slot_eq t s
-frees_slot s c = false
+frees_slot slot (change.Freed named) = slot_eq named slot
+frees_slot slot other = false
 
--- some of the entries is the caller's and does this
+-- some of the entries is the caller's and is such a use
 abbrev pub has_use : ℕ → (Change → Bool) → List Entry → Bool
-has_use caller is_use entries = list_any (λ e. nat_eq e.caller caller && is_use e.change) entries
+has_use caller is_use entries =
+    list_any (λ entry. nat_eq entry.caller caller && is_use entry.change) entries

@@ -1,5 +1,6 @@
--- The definitions at concrete histories: what the hub answers after some calls, and what may not follow. Each expected answer
--- was worked out by hand from the rules, and each is proved by computing the definitions.
+-- The definitions at concrete histories: what the hub answers after some calls, and what may not
+-- follow. Each expected answer was worked out by hand from the rules, and each is proved by
+-- computing the definitions.
 use Rattle.std.specs.Prelude.{◌≡◌, ℕ, ◌-◌, ◌^◌, Bool, true, false, List, [], ◌∷◌, ◌++◌, map, length, codes, None, Some}
 use Rattle.grid_types.specs.declared.capabilities.Cap.{Cap}
 use Rattle.grid_types.specs.declared.capabilities.CapValue.{CapValue}
@@ -48,7 +49,7 @@ and_then c steps caller change = permitted c (run c [] steps) caller change
 abbrev pub time : ℕ → Moment
 time m = record { 0 = m }
 
--- capabilities of one text member, and of a browser's name alone
+-- capabilities of one text member
 abbrev pub of_text : List ℕ → List ℕ → List Cap
 of_text name text = record { name = name; value = value.Text text } ∷ []
 
@@ -66,11 +67,11 @@ node name address browser slots = record {
   drain_after = None;
 }
 
--- a node's first slot, and the tokens that calls take and give
+-- a node's first slot
 abbrev pub slot : ℕ → SlotId
 slot n = record { node = n; index = 0 }
 
--- a ticket
+-- a request's ticket
 abbrev pub ticket : ℕ → ℕ → Ticket
 ticket r deadline = record { request = r; deadline = deadline }
 
@@ -90,19 +91,19 @@ chrome = codes "chrome"
 abbrev pub firefox : List ℕ
 firefox = codes "firefox"
 
--- the addresses of the first two nodes
+-- the address of the first node
 abbrev pub first_address : List ℕ
 first_address = codes "x:1"
 
--- of the second
+-- the address of the second node
 abbrev pub second_address : List ℕ
 second_address = codes "x:2"
 
--- of a third
+-- the address of a third node
 abbrev pub third_address : List ℕ
 third_address = codes "x:3"
 
--- calls that the histories share
+-- the enqueue of a request for this browser
 abbrev pub wants : List ℕ → Call
 wants browser = Call.enqueue (named browser ∷ [])
 
@@ -110,7 +111,7 @@ wants browser = Call.enqueue (named browser ∷ [])
 abbrev pub first_node : Call
 first_node = Call.register (node (codes "a") first_address chrome 1)
 
--- the registration of another at this address
+-- the registration of another node of one slot, at this address
 abbrev pub second_node : List ℕ → Call
 second_node address = Call.register (node (codes "b") address chrome 1)
 
@@ -202,7 +203,8 @@ pub record WorkedChoice : Type 0 where
   pub second_choice : reply_after default_config ((Call.register (node (codes "a") first_address firefox 1), 0) ∷ (Call.enqueue (named (codes "safari") ∷ named firefox ∷ []), 0) ∷ []) Call.dispatch 0
       ≡ Reply.assigned (record { request = 1; slot = slot 1; choice = 1; address = first_address; wanted = named firefox })
 
--- a start that fails is tried again at another node, and not at the one where it failed; the last failure settles the request
+-- a start that fails is tried again at another node, and not at the one where it failed; the last
+-- failure settles the request
 abbrev pub first_start : List (Call × ℕ)
 first_start = (first_node, 0) ∷ (second_node second_address, 0) ∷ (wants chrome, 0) ∷ (Call.dispatch, 0) ∷ []
 
@@ -243,7 +245,8 @@ pub record WorkedLateBind : Type 0 where
   pub takes_the_slot : reply_after default_config next_in_line Call.dispatch 300_002 ≡ Reply.assigned (reservation 2 1 first_address chrome)
   pub is_legal : legal default_config (run default_config [] next_in_line) ≡ true
 
--- a time-out comes at the deadline and not a millisecond before it, and nothing is assigned from the deadline on
+-- a time-out comes at the deadline and not a millisecond before it, and nothing is assigned from
+-- the deadline on
 abbrev pub unserved : List (Call × ℕ)
 unserved = (wants chrome, 0) ∷ []
 
@@ -319,7 +322,8 @@ pub record WorkedSweep : Type 0 where
   pub two_lapses : (hub default_config (run default_config [] ((first_node, 0) ∷ (second_node second_address, 0) ∷ [])) 0 Call.sweep 240_000).changes ≡ change.Lapsed 1 (time 240_000) ∷ change.Lapsed 2 (time 240_000) ∷ []
   pub two_suspicions : (hub default_config (run default_config [] ((first_node, 0) ∷ (second_node second_address, 0) ∷ [])) 0 Call.sweep 120_000).changes ≡ change.Suspected 1 (time 120_000) ∷ change.Suspected 2 (time 120_000) ∷ []
 
--- one session id at two nodes: the second is not kept, and is ended at its node only where that is another address
+-- one session id at two nodes: the second is not kept, and is ended at its node only where that is
+-- another address
 abbrev pub two_nodes : List ℕ → List (Call × ℕ)
 two_nodes second =
     (first_node, 0) ∷ (second_node second, 0) ∷ (wants chrome, 0) ∷ (wants chrome, 0) ∷ (Call.dispatch, 0) ∷ (Call.dispatch, 0)
@@ -336,7 +340,8 @@ pub record WorkedEqualIds : Type 0 where
   pub node_barred : is_barred (run default_config [] after_duplicate) 2 2 ≡ true
   pub other_binding : reply_after default_config after_duplicate (Call.touch (codes "a") 2) 2 ≡ Reply.no_session
   pub own_binding : reply_after default_config after_duplicate (Call.touch (codes "a") 1) 2 ≡ Reply.touched
-  -- a node is removed while a start is on its way, and another at its address runs a session of that id
+  -- a node is removed while a start is on its way, and another at its address runs a session of
+  -- that id
   pub gone_at_one_address : reply_after default_config
       ((first_node, 0) ∷ (wants chrome, 0) ∷ (Call.dispatch, 0) ∷ (Call.remove 1, 1) ∷ (second_node first_address, 1) ∷ (wants chrome, 1) ∷ (Call.dispatch, 1)
       ∷ (binds 2 2 first_address (codes "a"), 2) ∷ []) (binds 1 1 first_address (codes "a")) 3 ≡ Reply.node_gone (closing (codes "a") 1 first_address false)
@@ -359,7 +364,8 @@ pub record WorkedNodes : Type 0 where
   pub removed_once : reply_after default_config ((first_node, 0) ∷ (Call.remove 1, 0) ∷ []) (Call.remove 1) 0 ≡ Reply.no_node
   pub name_freed : reply_after default_config ((first_node, 0) ∷ (Call.remove 1, 0) ∷ []) first_node 0 ≡ Reply.registered 2
 
--- a node of two slots that lapses with a session and a reservation: at the moment, and not a millisecond before
+-- a node of two slots that lapses with a session and a reservation: at the moment, and not a
+-- millisecond before
 abbrev pub two_slots : List (Call × ℕ)
 two_slots =
     (Call.register (node (codes "a") first_address chrome 2), 0) ∷ (wants chrome, 0) ∷ (Call.dispatch, 0)
@@ -382,7 +388,8 @@ pub record WorkedLapse : Type 0 where
   pub name_freed : reply_after default_config lapsed (Call.register (node (codes "a") first_address chrome 2)) 240_001 ≡ Reply.registered 2
   pub is_legal : legal default_config (run default_config [] (lapsed ++ (Call.bind second_slot (codes "b") (named chrome), 240_001) ∷ [])) ≡ true
 
--- the published map's changes, the newest first: a lapse takes the sessions of a node away by the slots' order
+-- the published map's changes, the newest first: a lapse takes the sessions of a node away by the
+-- slots' order
 abbrev pub both_busy : List (Call × ℕ)
 both_busy = two_slots ++ (Call.bind second_slot (codes "b") (named chrome), 0) ∷ []
 
@@ -410,7 +417,8 @@ pub record WorkedIdle : Type 0 where
   pub least_binding : reply_after default_config (two_nodes second_address ++ (binds 2 2 second_address (codes "b"), 1) ∷ (Call.touch (codes "a") 1, 10) ∷ []) Call.expire 400_000
       ≡ Reply.expired (closing (codes "a") 1 first_address true)
 
--- a draining node takes no new session, keeps the ones it has, and is removed once its slots are free
+-- a draining node takes no new session, keeps the ones it has, and is removed once its slots are
+-- free
 abbrev pub draining : List (Call × ℕ)
 draining =
     (Call.register (node (codes "a") first_address chrome 2), 0) ∷ (wants chrome, 0) ∷ (Call.dispatch, 0)
@@ -479,12 +487,13 @@ pub record WorkedNumbers : Type 0 where
   pub last_moment : reply_after default_config [] (Call.enqueue ([] ∷ [])) (2 ^ 62 - 2) ≡ Reply.queued (ticket 1 (2 ^ 62 - 1))
   pub deadline_reaches_it : deadline_at default_config ([] ∷ []) (2 ^ 62 - 300_001) ≡ 2 ^ 62 - 1
   pub deadline_below_it : deadline_at default_config ([] ∷ []) (2 ^ 62 - 300_002) ≡ 2 ^ 62 - 2
-  -- a taken name is told before that numbers are spent, and spent numbers before that nothing matches
+  -- a taken name is told before that numbers are spent, and spent numbers before that nothing
+  -- matches
   pub name_before_numbers : reply_after (record default_config { first_node = 2 ^ 32 - 2 }) ((first_node, 0) ∷ []) first_node 0 ≡ Reply.name_taken (2 ^ 32 - 2)
   pub numbers_before_support : reply_after (record default_config { first_request = 2 ^ 64 - 1; reject_unsupported = true }) [] (wants chrome) 0 ≡ Reply.numbers_spent
 
--- what may not follow: a reservation out of order, a bind after a time-out, a second reservation of a held slot, a failure
--- that is wrongly said to be the last, and another caller's use of a token
+-- what may not follow: a reservation out of order, a bind after a time-out, a second reservation of
+-- a held slot, a failure that is wrongly said to be the last, and another caller's use of a token
 pub record WorkedRefusals : Type 0 where
   pub order_kept : and_then default_config ((Call.register (node (codes "a") first_address chrome 2), 0) ∷ (wants chrome, 0) ∷ (wants chrome, 0) ∷ []) 0 (change.Reserved 2 (slot 1) 0 (time 1)) ≡ false
   pub not_bound_late : and_then default_config timed_out 0 (change.Bound 1 (slot 1) (codes "a") (named chrome) (time 300_001)) ≡ false
@@ -494,8 +503,8 @@ pub record WorkedRefusals : Type 0 where
   pub its_callers : and_then default_config (two_nodes second_address) 0 (change.Failed 2 (slot 2) why.BadReply None false (time 2)) ≡ true
   pub not_before_the_clock : and_then default_config (two_nodes second_address) 0 (change.Beaten 1 (time 0)) ≡ false
 
--- a node of two slots with a session that is silent: it is suspect, takes no new session and keeps its own; a beat brings
--- it back, and after a longer silence it is down
+-- a node of two slots with a session that is silent: it is suspect, takes no new session and keeps
+-- its own; a beat brings it back, and after a longer silence it is down
 abbrev pub silent : List (Call × ℕ)
 silent =
     (Call.register (node (codes "a") first_address chrome 2), 0) ∷ (wants chrome, 0) ∷ (Call.dispatch, 0)
@@ -568,7 +577,8 @@ pub record WorkedCount : Type 0 where
       ≡ change.Bound 1 (slot 1) (codes "a") (named chrome) (time 1) ∷ change.Draining 1 (time 1) ∷ []
   pub bound_one_counts : reply_after default_config one_ended Call.dispatch 2 ≡ Reply.nothing
   pub removed : reply_after default_config one_ended Call.sweep 2 ≡ Reply.swept 0 0 0 1
-  -- a start that fails, with a session of the node or without one, leaves the count to the next request
+  -- a start that fails, with a session of the node or without one, leaves the count to the next
+  -- request
   pub next_after_failure : reply_after default_config (one_held ++ (fails 1 first_address, 1) ∷ []) Call.dispatch 1
       ≡ Reply.assigned (reservation 2 1 first_address chrome)
   pub next_after_orphan : reply_after default_config (one_held ++ (Call.bind (reservation 1 1 first_address chrome) (codes "a") (named firefox), 1) ∷ []) Call.dispatch 1

@@ -1,5 +1,6 @@
 //! Capabilities, lists of choices, and what a node registers.
 ghost use Rattle.std.specs.Prelude.{◌≡◌, ◌++◌, ◌∷◌, [], ◌<◌, ◌≤◌, List, ℕ, IfOk, IfErr, OnOk, OnErr, length};
+ghost use Rattle.grid_types.specs.declared.limits.TheConstants.{MOST_CHOICES};
 
 use crate::names::NodeAddress;
 use crate::text::Text;
@@ -121,12 +122,13 @@ pub struct Choices {
 impl Model for Choices {
     ghost use Rattle.std.specs.Prelude.{List, ◌≤◌, length};
     ghost use Rattle.grid_types.specs.declared.capabilities.Cap.{Cap};
+    ghost use Rattle.grid_types.specs.declared.limits.TheConstants.{MOST_CHOICES};
 
     ghost Value = { List (List Cap) };
 
     ghost view = { λ c. c.lists.items };
 
-    ghost invariant = { λ c. (1 ≤ length c.lists.items) × (length c.lists.items ≤ 64) };
+    ghost invariant = { λ c. (1 ≤ length c.lists.items) × (length c.lists.items ≤ MOST_CHOICES) };
 }
 
 impl Choices {
@@ -145,7 +147,7 @@ impl Choices {
     /// Puts one more choice last, where there are fewer than 64, which the caller sees to.
     /// Err: out of memory; all stays as it is and the list comes back.
     pub fn push(&mut self, item: Caps) -> Result<(), Caps>
-        requires { length self.old < 64 }
+        requires { length self.old < MOST_CHOICES }
         ensures ok { OnOk result (self.new ≡ self.old ++ item ∷ []) }
         ensures err { OnErr result (self.new ≡ self.old) }
         ensures back { IfErr result (λ back. back ≡ item) }
@@ -160,7 +162,7 @@ impl Choices {
     pub fn items(&self) -> &[Caps]
         ensures items { result.now ≡ self.now }
         ensures some { 1 ≤ length self.now }
-        ensures few { length self.now ≤ 64 }
+        ensures few { length self.now ≤ MOST_CHOICES }
     {
         self.lists.as_slice()
     }

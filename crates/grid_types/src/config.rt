@@ -2,7 +2,10 @@
 ghost use Rattle.std.specs.Prelude.{◌↔◌, IsTrue};
 ghost use Rattle.grid_types.specs.Config.{IsValid};
 
-use crate::limits::MOST_DOWN_MS;
+use crate::limits::{
+    LEAST_IDLE_MS, LEAST_LAPSE_MS, LEAST_QUEUE_TIME_MS, MOST_DOWN_MS, MOST_IDLE_MS, MOST_LAPSE_MS,
+    MOST_QUEUE_TIME_MS, MOST_REQUESTS,
+};
 use crate::names::{NodeNo, ReqNo};
 
 /// What a hub is set up with. It is fixed for the hub's life, and [`HubConfig::is_valid`] says which values a hub takes.
@@ -31,14 +34,14 @@ impl HubConfig {
     pub fn is_valid(&self) -> bool
         ensures { IsTrue result ↔ IsValid self.now }
     {
-        self.timeout_ms >= 1_000
-            && self.timeout_ms <= 86_400_000
-            && self.idle_ms >= 10_000
-            && self.idle_ms <= 86_400_000
-            && self.lapse_ms >= 1_000
-            && self.lapse_ms <= 86_400_000
+        self.timeout_ms >= LEAST_QUEUE_TIME_MS
+            && self.timeout_ms <= MOST_QUEUE_TIME_MS
+            && self.idle_ms >= LEAST_IDLE_MS
+            && self.idle_ms <= MOST_IDLE_MS
+            && self.lapse_ms >= LEAST_LAPSE_MS
+            && self.lapse_ms <= MOST_LAPSE_MS
             && self.queue_requests >= 1
-            && self.queue_requests <= 10_000
+            && self.queue_requests <= MOST_REQUESTS
             && self.first_node >= 1
             && self.first_request >= 1
             && self.down_ms >= self.lapse_ms
@@ -59,7 +62,7 @@ impl Default for HubConfig {
             timeout_ms: 300_000,
             idle_ms: 300_000,
             lapse_ms: 120_000,
-            queue_requests: 10_000,
+            queue_requests: MOST_REQUESTS,
             reject_unsupported: false,
             first_node: 1,
             first_request: 1,

@@ -1,5 +1,6 @@
 //! The laws of the definitions, each as the contract of a function that does nothing.
 ghost use Rattle.grid_types.specs.declared.config.HubConfig.{HubConfig};
+ghost use Rattle.grid_types.specs.HistoryLaws.{Known};
 ghost use Rattle.grid_types.specs.OneMoreEntry.{ActiveMoves, BarMoves, BaseMoves, BeatMoves, CountMoves, HeldMoves, HolderMoves, LiveMoves, LoadMoves, NumberedOneByOne, OwnerMoves, PlaceMoves, PublishedMoves, QueueMoves, SuspicionMoves, TurnMoves};
 ghost use Rattle.grid_types.specs.Laws.{CallsGiveGoodTokens, CallsStayLegal, ChosenFits, ChosenIsFirst, ClosingsStayGood, FirstIsChosen, LegalHistoriesAreSafe, LiveIsRunning, MapFindsLive, NoneFits, ReservationsStayGood, ReservationsTellTheSame, TicketsStayGood, TicketsTellTheSame};
 
@@ -71,4 +72,10 @@ pub fn one_more_entry()
 /// In a legal history nodes and requests are numbered one by one from the configured first numbers on, so that both lists ascend.
 pub fn numbered_one_by_one()
     ensures { (c : HubConfig) → NumberedOneByOne c }
+{}
+
+/// What holds of every legal history: what a permitted change tells, and what each change does to nodes, slots, requests
+/// and sessions.
+pub fn history_laws()
+    ensures { Known }
 {}

@@ -19,10 +19,15 @@ pub use capabilities::{Cap, CapValue, Caps, Choices, Groups, Registration, SlotG
 pub use config::HubConfig;
 pub use entry::{Change, EndCause, Entry, FailWhy, Found, Outcome};
 pub use laws::{
-    calls_give_good_tokens, calls_stay_legal, chosen_is_first, legal_is_safe, live_is_running,
-    map_finds_live, numbered_one_by_one, one_more_entry, tokens_stay_good, tokens_tell_the_same,
+    calls_give_good_tokens, calls_stay_legal, chosen_is_first, history_laws, legal_is_safe,
+    live_is_running, map_finds_live, numbered_one_by_one, one_more_entry, tokens_stay_good,
+    tokens_tell_the_same,
 };
-pub use limits::{LEAST_QUEUE_TIME_MS, MOST_DOWN_MS, MOST_DRAIN_AFTER, MOST_QUEUE_TIME_MS};
+pub use limits::{
+    LAST_MOMENT, LEAST_IDLE_MS, LEAST_LAPSE_MS, LEAST_QUEUE_TIME_MS, MOST_CHOICES, MOST_DOWN_MS,
+    MOST_DRAIN_AFTER, MOST_IDLE_MS, MOST_LAPSE_MS, MOST_NAME_BYTES, MOST_NODES, MOST_QUEUE_BYTES,
+    MOST_QUEUE_TIME_MS, MOST_REQUESTS, MOST_SESSIONS, MOST_SLOTS,
+};
 pub use names::{Moment, NodeAddress, NodeNo, ReqNo, SessionId, SlotId, Words};
 pub use queue_time::{QUEUE_TIME_NAME, time_of_value, time_to_wait};
 pub use request_size::request_bytes;

@@ -4,6 +4,7 @@ use Rattle.std.specs.Prelude.{Option, None, Some, nat_eq, nat_le, nat_lt, find, 
 use Rattle.std.specs.List.{list_all}
 use Rattle.grid_types.specs.declared.config.HubConfig.{HubConfig}
 use Rattle.grid_types.specs.declared.entry.Entry.{Entry}
+use Rattle.grid_types.specs.declared.entry.FailWhy.{FailWhy}
 use Rattle.grid_types.specs.declared.entry.Change.{Change}
 use Rattle.grid_types.specs.declared.entry.Change.TheVariants as change
 use Rattle.grid_types.specs.declared.entry.EndCause.TheVariants as cause
@@ -24,8 +25,8 @@ use Rattle.grid_types.specs.Permitted.{is_named, is_supported, most_bytes, wante
 use Rattle.grid_types.specs.Capabilities.{request_bytes}
 use Rattle.grid_types.specs.Tokens.{Closing, Ticket}
 use Rattle.grid_types.specs.Calls.{Call, Reply}
-use Rattle.grid_types.specs.HubAnswers.{Answer, after_call, answer, bound, closes, dispatched, drain_after_bind, drained_nodes, enqueued, expired_by, hub, idle_bindings, is_binding, lapsed_nodes, lapses, moment, overdue_requests, polled, polled_open, register_by, removals, silent_nodes, suspicions, time_outs}
-use Rattle.grid_types.proofs.SessionLemmas.{entry}
+use Rattle.grid_types.specs.HubAnswers.{Answer, after_call, answer, bound, bound_by, refusal_of, closes, dispatched, drain_after_bind, drained_nodes, enqueued, expired_by, hub, idle_bindings, is_binding, lapsed_nodes, lapses, moment, overdue_requests, polled, polled_open, register_by, removals, silent_nodes, suspicions, time_outs}
+use Rattle.grid_types.specs.Tables.{entry}
 use Rattle.start_laws.specs.Starts.{newest_request}
 use Rattle.start_laws.specs.Laws.{is_enqueue}
 use Rattle.start_laws.proofs.CountLemmas.{never}
@@ -91,12 +92,12 @@ drains_after G n m = by_test (is_spent G n && is_base_up G n)
     by_test true = refl
     by_test false = refl
 
+binds_by : (H : List Entry) (k r : ℕ) (s : SlotId) (x : List ℕ) (caps : List Cap) (m : ℕ) (o : Option FailWhy) → AreOthers (bound_by H k r s x caps m o).changes
+binds_by H k r s x caps m None = drains_after (after H k (change.Bound r s x caps (moment m) ∷ [])) s.node m
+binds_by H k r s x caps m (Some w) = refl
+
 binds : (H : List Entry) (k r : ℕ) (s : SlotId) (x : List ℕ) (caps : List Cap) (m : ℕ) → AreOthers (bound H k r s x caps m).changes
-binds H k r s x caps m =
-    either (is_settled H r) _ _ refl
-    (either (not (is_registered H s.node)) _ _ refl
-    (either (is_live_session H x) _ _ refl
-    (either (not (meets (wanted_of H r s) caps)) _ _ refl (drains_after (after H k (change.Bound r s x caps (moment m) ∷ [])) s.node m))))
+binds H k r s x caps m = binds_by H k r s x caps m (refusal_of H r s x caps)
 
 closes_one : (H : List Entry) (k b : ℕ) (c : Change) (o : Option Running) (answer : Closing → Reply) → is_other c ≡ true → AreOthers (closes H k c o answer).changes
 closes_one H k b c None answer e = refl

@@ -16,8 +16,8 @@ use Rattle.grid_types.specs.Legal.{legal}
 use Rattle.grid_types.specs.Tokens.{Reservation, Ticket}
 use Rattle.grid_types.specs.Calls.{Call, Reply}
 use Rattle.grid_types.specs.HubAnswers.{after_call, hub, polled, polled_open, reserves}
-use Rattle.grid_types.proofs.SessionLemmas.{entry}
-use Rattle.grid_types.proofs.LegalLemmas.{legal-before, legal-permitted}
+use Rattle.grid_types.specs.Tables.{entry}
+use Rattle.grid_types.specs.HistoryLaws.{Known, laws}
 use Rattle.start_laws.specs.Laws.{IsEarly}
 
 -- a poll that gives a slot
@@ -66,10 +66,10 @@ pub record Waits (H : List Entry) (r m : ℕ) (changes : List Change) (u : Ticke
   pub ticket_is : u.request ≡ r
   pub changes_are : changes ≡ []
 
-open_waits : (H : List Entry) (k r m : ℕ) (o : Option Assignment) (u : Ticket) → m < deadline_of H r → (polled_open H k r m o).reply ≡ Reply.not_yet u →
+open_waits : Known → (H : List Entry) (k r m : ℕ) (o : Option Assignment) (u : Ticket) → m < deadline_of H r → (polled_open H k r m o).reply ≡ Reply.not_yet u →
     Waits H r m (polled_open H k r m o).changes u
-open_waits H k r m None u early e = record { early = early; ticket_is = grind arith; changes_are = refl }
-open_waits H k r m (Some a) u early e = by_request (nat_eq a.request r) refl e
+open_waits proved H k r m None u early e = record { early = early; ticket_is = grind arith; changes_are = refl }
+open_waits proved H k r m (Some a) u early e = by_request (nat_eq a.request r) refl e
   where
     by_request : (b : Bool) → nat_eq a.request r ≡ b → (polled_open H k r m (Some a)).reply ≡ Reply.not_yet u → Waits H r m (polled_open H k r m (Some a)).changes u
     by_request true f e = absurd (grind arith)
@@ -78,18 +78,18 @@ open_waits H k r m (Some a) u early e = by_request (nat_eq a.request r) refl e
         other : (polled_open H k r m (Some a)).changes ≡ [] → u.request ≡ r → Waits H r m (polled_open H k r m (Some a)).changes u
         other changes ticket = record { early = early; ticket_is = ticket; changes_are = changes }
 
-waits : (H : List Entry) (k r m : ℕ) (o : Option Outcome) (u : Ticket) → (polled H k r m o).reply ≡ Reply.not_yet u → Waits H r m (polled H k r m o).changes u
-waits H k r m (Some outcome) u e = absurd cc
-waits H k r m None u e = by_deadline (nat_le (deadline_of H r) m) refl e
+waits : Known → (H : List Entry) (k r m : ℕ) (o : Option Outcome) (u : Ticket) → (polled H k r m o).reply ≡ Reply.not_yet u → Waits H r m (polled H k r m o).changes u
+waits proved H k r m (Some outcome) u e = absurd cc
+waits proved H k r m None u e = by_deadline (nat_le (deadline_of H r) m) refl e
   where
     by_deadline : (b : Bool) → nat_le (deadline_of H r) m ≡ b → (polled H k r m None).reply ≡ Reply.not_yet u → Waits H r m (polled H k r m None).changes u
     by_deadline true f e = absurd (grind arith)
-    by_deadline false f e = rw f (open_waits H k r m (chosen H m) u (early_of (deadline_of H r) m f) (grind arith))
+    by_deadline false f e = rw f (open_waits proved H k r m (chosen H m) u (early_of (deadline_of H r) m f) (grind arith))
 
-pub not_yet : (c : HubConfig) (H : List Entry) (k : ℕ) (t u : Ticket) (at : ℕ) → (hub c H k (Call.poll t) at).reply ≡ Reply.not_yet u →
+pub not_yet : Known → (c : HubConfig) (H : List Entry) (k : ℕ) (t u : Ticket) (at : ℕ) → (hub c H k (Call.poll t) at).reply ≡ Reply.not_yet u →
     IsEarly H t at × (u.request ≡ t.request) × (after_call c H k (Call.poll t) at ≡ H)
 unfolding hub
-not_yet c H k t u at e = by_waits (waits H k t.request (max at (clock H)) (outcome_of H t.request) u e)
+not_yet proved c H k t u at e = by_waits (waits proved H k t.request (max at (clock H)) (outcome_of H t.request) u e)
   where
     by_waits : Waits H t.request (max at (clock H)) (polled H k t.request (max at (clock H)) (outcome_of H t.request)).changes u →
         IsEarly H t at × (u.request ≡ t.request) × (after H k (polled H k t.request (max at (clock H)) (outcome_of H t.request)).changes ≡ H)
@@ -101,9 +101,9 @@ queued_deadline : (c : HubConfig) (H : List Entry) (k r : ℕ) (choices : List (
 unfolding permitted
 queued_deadline c H k r choices d at p = let same : nat_eq d.0 (deadline_at c choices at.0) ≡ true = grind arith in grind arith
 
-pub deadlines : (c : HubConfig) (H : List Entry) (r : ℕ) → legal c H ≡ true → deadline_of H r ≤ last_moment
-deadlines c [] r l = omega arith
-deadlines c (e ∷ H) r l = by_change e.caller e.change (legal-permitted c e H l) (deadlines c H r (legal-before c e H l))
+pub deadlines : Known → (c : HubConfig) (H : List Entry) (r : ℕ) → legal c H ≡ true → deadline_of H r ≤ last_moment
+deadlines proved c [] r l = omega arith
+deadlines proved c (e ∷ H) r l = by_change e.caller e.change ((laws proved).legal-permitted c e H l) (deadlines proved c H r ((laws proved).legal-before c e H l))
   where
     by_change : (k : ℕ) (ch : Change) → permitted c H k ch ≡ true → deadline_of H r ≤ last_moment → deadline_of (entry k ch ∷ H) r ≤ last_moment
     by_change k (change.Queued q choices d at) p before = elim (nat_eq q r) as (λ v. nat_eq q r ≡ v → deadline_of (entry k (change.Queued q choices d at) ∷ H) r ≤ last_moment) [

@@ -27,12 +27,10 @@ use Rattle.grid_types.specs.Permitted.{is_supported, most_bytes, permitted, want
 use Rattle.grid_types.specs.Legal.{legal}
 use Rattle.grid_types.specs.Tokens.{Closing, Reservation, Ticket}
 use Rattle.grid_types.specs.Calls.{Call, Reply}
-use Rattle.grid_types.specs.HubAnswers.{Answer, after_call, bind_kept, drain_after_bind, enqueued, hub, moment, not_kept, polled, reserves}
-use Rattle.grid_types.proofs.SessionLemmas.{entry}
-use Rattle.grid_types.proofs.LegalLemmas.{legal-before, legal-permitted}
-use Rattle.grid_types.proofs.HeldLemmas.{HoldsOne, holds-one}
-use Rattle.grid_types.proofs.RequestLemmas.{waiting-parts}
-use Rattle.grid_types.proofs.PermittedLemmas.{Fits, chosen-fits, fits-tells, permitted-Failed, permitted-Registered, permitted-Reserved, slot_eq-is}
+use Rattle.grid_types.specs.HubAnswers.{Answer, after_call, bound_by, drain_after_bind, enqueued, hub, moment, polled, reserves}
+use Rattle.grid_types.specs.Tables.{entry}
+use Rattle.grid_types.specs.Told.{HoldsOne, Fits}
+use Rattle.grid_types.specs.HistoryLaws.{Known, laws}
 use Rattle.start_laws.specs.Starts.{is_tried, is_untried, registered_count, starts_left}
 use Rattle.start_laws.specs.Laws.{GaveSlot}
 use Rattle.start_laws.proofs.CountLemmas.{at_most_all, fewer, in_last, in_left, never, no_more}
@@ -48,28 +46,28 @@ abbrev last_node : List Entry → ℕ → Option ℕ
 last_node H r = last_told (λ _ e. node_told r e.change) H
 
 -- a request that waits has no reservation
-open_again : (H : List Entry) (q : ℕ) (k : ℕ) (s : SlotId) (m : ℕ) → Fits H q k s m → is_reserved H q ≡ false
-open_again H q k s m f = (waiting-parts (is_taken H q) (outcome_of H q) (is_reserved H q) (is_some (asked_of H q)) f.is_waiting).1
+open_again : Known → (H : List Entry) (q : ℕ) (k : ℕ) (s : SlotId) (m : ℕ) → Fits H q k s m → is_reserved H q ≡ false
+open_again proved H q k s m f = ((laws proved).waiting-parts (is_taken H q) (outcome_of H q) (is_reserved H q) (is_some (asked_of H q)) f.is_waiting).1
 
 not_held : (r : ℕ) → free ≡ held r → ⊥
 not_held r h = cc
 
 -- where a slot is held for a request, it was started there last
-held_last : (c : HubConfig) (H : List Entry) (s : SlotId) (r : ℕ) → legal c H ≡ true → holder H s ≡ held r → last_node H r ≡ Some s.node
-held_last c [] s r l h = absurd (not_held r h)
-held_last c (e ∷ H) s r l h =
-    by_change e.caller e.change (legal-permitted c e H l) (holds-one c H (legal-before c e H l)) (λ g. held_last c H s r (legal-before c e H l) g) h
+held_last : Known → (c : HubConfig) (H : List Entry) (s : SlotId) (r : ℕ) → legal c H ≡ true → holder H s ≡ held r → last_node H r ≡ Some s.node
+held_last proved c [] s r l h = absurd (not_held r h)
+held_last proved c (e ∷ H) s r l h =
+    by_change e.caller e.change ((laws proved).legal-permitted c e H l) ((laws proved).holds-one c H ((laws proved).legal-before c e H l)) (λ g. held_last proved c H s r ((laws proved).legal-before c e H l) g) h
   where
     by_change : (k : ℕ) (ch : Change) → permitted c H k ch ≡ true → HoldsOne H → (holder H s ≡ held r → last_node H r ≡ Some s.node) → holder (entry k ch ∷ H) s ≡ held r →
         last_node (entry k ch ∷ H) r ≡ Some s.node
     by_change k (change.Reserved q u choice at) p ones before h =
         elim (slot_eq u s) as (λ v. slot_eq u s ≡ v → last_node (entry k (change.Reserved q u choice at) ∷ H) r ≡ Some s.node) [
-          | true ↦ λ e. let same : u ≡ s = slot_eq-is u s e in let one : q ≡ r = grind arith in grind arith
+          | true ↦ λ e. let same : u ≡ s = (laws proved).slot_eq-is u s e in let one : q ≡ r = grind arith in grind arith
           | false ↦ λ e. elim (nat_eq q r) as (λ v. nat_eq q r ≡ v → last_node (entry k (change.Reserved q u choice at) ∷ H) r ≡ Some s.node) [
             | true ↦ λ f.
                 let same : q ≡ r = grind arith in
                 let was : holder H s ≡ held q = grind arith in
-                let not_here : is_reserved H q ≡ false = open_again H q choice u at.0 (permitted-Reserved c H k q u choice at p) in
+                let not_here : is_reserved H q ≡ false = open_again proved H q choice u at.0 ((laws proved).permitted-Reserved c H k q u choice at p) in
                 absurd (never (sym not_here ∙ ones.reserved s q was))
             | false ↦ λ f. let was : last_node H r ≡ Some s.node = before (grind arith) in grind arith
           ] refl
@@ -91,10 +89,10 @@ IsThere H r n = (is_barred H r n ≡ true) ⊎ ((is_reserved H r ≡ true) × (l
 some_is : (m n : ℕ) → Some m ≡ Some n → m ≡ n
 some_is m n e = cc
 
-tried_there : (c : HubConfig) (H : List Entry) (r n : ℕ) → legal c H ≡ true → is_tried H r n ≡ true → IsThere H r n
-tried_there c [] r n l h = absurd (never h)
-tried_there c (e ∷ H) r n l h =
-    by_change e.caller e.change (legal-permitted c e H l) (legal-before c e H l) (λ g. tried_there c H r n (legal-before c e H l) g) h
+tried_there : Known → (c : HubConfig) (H : List Entry) (r n : ℕ) → legal c H ≡ true → is_tried H r n ≡ true → IsThere H r n
+tried_there proved c [] r n l h = absurd (never h)
+tried_there proved c (e ∷ H) r n l h =
+    by_change e.caller e.change ((laws proved).legal-permitted c e H l) ((laws proved).legal-before c e H l) (λ g. tried_there proved c H r n ((laws proved).legal-before c e H l) g) h
   where
     by_change : (k : ℕ) (ch : Change) → permitted c H k ch ≡ true → legal c H ≡ true → (is_tried H r n ≡ true → IsThere H r n) → is_tried (entry k ch ∷ H) r n ≡ true →
         IsThere (entry k ch ∷ H) r n
@@ -111,7 +109,7 @@ tried_there c (e ∷ H) r n l h =
         by_before e (inl barred) = inl (grind arith)
         by_before e (inr there) =
             let same : q ≡ r = grind arith in
-            let not_here : is_reserved H q ≡ false = open_again H q choice u at.0 (permitted-Reserved c H k q u choice at p) in
+            let not_here : is_reserved H q ≡ false = open_again proved H q choice u at.0 ((laws proved).permitted-Reserved c H k q u choice at p) in
             absurd (never (sym not_here ∙ subst (λ (x : ℕ). is_reserved H x ≡ true) (sym same) there.0))
 
         still : nat_eq q r ≡ false → IsThere H r n → IsThere (entry k (change.Reserved q u choice at) ∷ H) r n
@@ -124,8 +122,8 @@ tried_there c (e ∷ H) r n l h =
         by_before (inr there) = elim (nat_eq q r) as (λ v. nat_eq q r ≡ v → IsThere (entry k (change.Failed q u w o last at) ∷ H) r n) [
           | true ↦ λ e.
               let same : q ≡ r = grind arith in
-              let was : holder H u ≡ held r = subst (λ (x : ℕ). holder H u ≡ held x) same (permitted-Failed c H k q u w o last at p).holder in
-              let node : u.node ≡ n = some_is u.node n (sym (held_last c H u r ok was) ∙ there.1) in
+              let was : holder H u ≡ held r = subst (λ (x : ℕ). holder H u ≡ held x) same ((laws proved).permitted-Failed c H k q u w o last at p).holder in
+              let node : u.node ≡ n = some_is u.node n (sym (held_last proved c H u r ok was) ∙ there.1) in
               inl (grind arith)
           | false ↦ λ e. inr (grind (arith, there.0), grind (arith, there.1))
         ] refl
@@ -151,16 +149,16 @@ both true true d e = refl
 both false b d e = absurd (never d)
 both true false d e = absurd (never e)
 
-pub chosen_untried : (c : HubConfig) (H : List Entry) (m : ℕ) (a : Assignment) → legal c H ≡ true → chosen H m ≡ Some a → is_untried H a.request a.slot.node ≡ true
-chosen_untried c H m a l e = untried (fits-tells H a.request a.choice a.slot m (chosen-fits H m a e))
+pub chosen_untried : Known → (c : HubConfig) (H : List Entry) (m : ℕ) (a : Assignment) → legal c H ≡ true → chosen H m ≡ Some a → is_untried H a.request a.slot.node ≡ true
+chosen_untried proved c H m a l e = untried ((laws proved).fits-tells H a.request a.choice a.slot m ((laws proved).chosen-fits H m a e))
   where
     no_more_there : Fits H a.request a.choice a.slot m → IsThere H a.request a.slot.node → ⊥
     no_more_there f (inl barred) = never (sym f.not_barred ∙ barred)
-    no_more_there f (inr there) = never (sym (open_again H a.request a.choice a.slot m f) ∙ there.0)
+    no_more_there f (inr there) = never (sym (open_again proved H a.request a.choice a.slot m f) ∙ there.0)
 
     untried : Fits H a.request a.choice a.slot m → is_untried H a.request a.slot.node ≡ true
     untried f = both (is_registered H a.slot.node) (not (is_tried H a.request a.slot.node)) (up_is_registered H a.slot.node f.is_up)
-        (not_tried (is_tried H a.request a.slot.node) (λ h. no_more_there f (tried_there c H a.request a.slot.node l h)))
+        (not_tried (is_tried H a.request a.slot.node) (λ h. no_more_there f (tried_there proved c H a.request a.slot.node l h)))
 
 -- ---- nodes are few
 
@@ -176,9 +174,9 @@ draining_up : (c : HubConfig) (H : List Entry) (k n : ℕ) (at : Moment) → per
 unfolding permitted
 draining_up c H k n at p = grind arith
 
-registered_there : (c : HubConfig) (H : List Entry) (n : ℕ) → legal c H ≡ true → is_registered H n ≡ true → list_any (λ x. nat_eq x n) (nodes H) ≡ true
-registered_there c [] n l h = absurd (never h)
-registered_there c (e ∷ H) n l h = by_change e.caller e.change (legal-permitted c e H l) (λ g. registered_there c H n (legal-before c e H l) g) h
+registered_there : Known → (c : HubConfig) (H : List Entry) (n : ℕ) → legal c H ≡ true → is_registered H n ≡ true → list_any (λ x. nat_eq x n) (nodes H) ≡ true
+registered_there proved c [] n l h = absurd (never h)
+registered_there proved c (e ∷ H) n l h = by_change e.caller e.change ((laws proved).legal-permitted c e H l) (λ g. registered_there proved c H n ((laws proved).legal-before c e H l) g) h
   where
     by_change : (k : ℕ) (ch : Change) → permitted c H k ch ≡ true → (is_registered H n ≡ true → list_any (λ x. nat_eq x n) (nodes H) ≡ true) → is_registered (entry k ch ∷ H) n ≡ true →
         list_any (λ x. nat_eq x n) (nodes (entry k ch ∷ H)) ≡ true
@@ -205,31 +203,31 @@ next_is_small : (c : HubConfig) (H : List Entry) (k n : ℕ) (r : Registration) 
 unfolding permitted
 next_is_small c H k n r at p = let small : nat_lt n (2 ^ 32 - 1) ≡ true = grind arith in grind arith
 
-few_nodes : (c : HubConfig) (H : List Entry) → legal c H ≡ true → length (nodes H) ≤ 2 ^ 32
-few_nodes c [] l = omega arith
-few_nodes c (e ∷ H) l = by_change e.caller e.change (legal-permitted c e H l) (few_nodes c H (legal-before c e H l))
+few_nodes : Known → (c : HubConfig) (H : List Entry) → legal c H ≡ true → length (nodes H) ≤ 2 ^ 32
+few_nodes proved c [] l = omega arith
+few_nodes proved c (e ∷ H) l = by_change e.caller e.change ((laws proved).legal-permitted c e H l) (few_nodes proved c H ((laws proved).legal-before c e H l))
   where
     by_change : (k : ℕ) (ch : Change) → permitted c H k ch ≡ true → length (nodes H) ≤ 2 ^ 32 → length (nodes (entry k ch ∷ H)) ≤ 2 ^ 32
     by_change k (change.Registered m r at) p before =
-        let next : m ≡ c.first_node + length (nodes H) = permitted-Registered c H k m r at p in
+        let next : m ≡ c.first_node + length (nodes H) = (laws proved).permitted-Registered c H k m r at p in
         let longer : length (nodes H ++ m ∷ []) ≡ length (nodes H) + 1 = length-append (nodes H) (m ∷ []) in
         let small : m < 2 ^ 32 = next_is_small c H k m r at p in
         omega (arith, next, longer, small)
     by_change k ch p before = before
 
-pub few : (c : HubConfig) (H : List Entry) → legal c H ≡ true → registered_count H ≤ 2 ^ 32
-few c H l = omega (arith, at_most_all (is_registered H) (nodes H), few_nodes c H l)
+pub few : Known → (c : HubConfig) (H : List Entry) → legal c H ≡ true → registered_count H ≤ 2 ^ 32
+few proved c H l = omega (arith, at_most_all (is_registered H) (nodes H), few_nodes proved c H l)
 
 -- ---- what calls do
 
 -- a slot of a new node is reserved
-reserved_fewer : (c : HubConfig) (H : List Entry) (k m : ℕ) (a : Assignment) → legal c H ≡ true → chosen H m ≡ Some a →
+reserved_fewer : Known → (c : HubConfig) (H : List Entry) (k m : ℕ) (a : Assignment) → legal c H ≡ true → chosen H m ≡ Some a →
     starts_left (after H k (reserves m a ∷ [])) a.request < starts_left H a.request
-reserved_fewer c H k m a l e =
+reserved_fewer proved c H k m a l e =
     fewer (is_untried H a.request) (is_untried (after H k (reserves m a ∷ [])) a.request) (nodes H) a.slot.node
     (λ n h. was (is_registered H n) (nat_eq a.request a.request && nat_eq a.slot.node n) (is_tried H a.request n) h)
-    (registered_there c H a.slot.node l (left (is_registered H a.slot.node) (not (is_tried H a.request a.slot.node)) (chosen_untried c H m a l e)))
-    (chosen_untried c H m a l e)
+    (registered_there proved c H a.slot.node l (left (is_registered H a.slot.node) (not (is_tried H a.request a.slot.node)) (chosen_untried proved c H m a l e)))
+    (chosen_untried proved c H m a l e)
     (gone (is_registered H a.slot.node) (nat_eq a.request a.request) (nat_eq a.slot.node a.slot.node) (is_tried H a.request a.slot.node) (same a.request) (same a.slot.node))
   where
     left : (x y : Bool) → (x && y) ≡ true → x ≡ true
@@ -250,17 +248,17 @@ reserved_fewer c H k m a l e =
     same : (n : ℕ) → nat_eq n n ≡ true
     same n = grind arith
 
-pub yours : (c : HubConfig) (H : List Entry) (k : ℕ) (t u : Ticket) (r : Reservation) (at : ℕ) → legal c H ≡ true →
+pub yours : Known → (c : HubConfig) (H : List Entry) (k : ℕ) (t u : Ticket) (r : Reservation) (at : ℕ) → legal c H ≡ true →
     (hub c H k (Call.poll t) at).reply ≡ Reply.yours u r → GaveSlot c H k t at u
 unfolding hub
-yours c H k t u r at l e = by_gave (gave H k t.request (max at (clock H)) (outcome_of H t.request) u r e)
+yours proved c H k t u r at l e = by_gave (gave H k t.request (max at (clock H)) (outcome_of H t.request) u r e)
   where
     by_gave : Yours H k t.request (max at (clock H)) (polled H k t.request (max at (clock H)) (outcome_of H t.request)).changes u → GaveSlot c H k t at u
     by_gave y = record {
       same_request = y.ticket_is;
       fewer = subst (λ (cs : List Change). starts_left (after H k cs) t.request < starts_left H t.request) (sym y.changes_are)
           (subst (λ (q : ℕ). starts_left (after H k (reserves (max at (clock H)) y.a ∷ [])) q < starts_left H q) y.request_is
-          (reserved_fewer c H k (max at (clock H)) y.a l y.is_chosen));
+          (reserved_fewer proved c H k (max at (clock H)) y.a l y.is_chosen));
     }
 
 -- a node that drains stays registered, and no other change of these opens a node
@@ -284,11 +282,8 @@ and_second false b e = absurd (never e)
 -- a bind, by its four causes
 abbrev bind_by : List Entry → ℕ → ℕ → SlotId → List ℕ → List Cap → ℕ → (settled there live met : Bool) → Answer
 bind_by H k r s x caps m settled there live met =
-    cond settled (not_kept H k r s x m why.Late Reply.late)
-    (cond (not there) (not_kept H k r s x m why.NodeGone Reply.node_gone)
-    (cond live (not_kept H k r s x m why.Duplicate Reply.duplicate)
-    (cond (not met) (not_kept H k r s x m why.Mismatch Reply.mismatch)
-    (bind_kept H k r s x caps m))))
+    bound_by H k r s x caps m (cond settled (Some why.Late) (cond (not there) (Some why.NodeGone) (cond live (Some why.Duplicate)
+    (cond (not met) (Some why.Mismatch) None))))
 
 bound_no_more : (H : List Entry) (k r : ℕ) (s : SlotId) (x : List ℕ) (caps : List Cap) (m q : ℕ) (settled there live met : Bool) →
     starts_left (after H k (bind_by H k r s x caps m settled there live met).changes) q ≤ starts_left H q

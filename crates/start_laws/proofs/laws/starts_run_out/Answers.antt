@@ -2,13 +2,15 @@ use Rattle.start_laws.proofs.StartLemmas.{bind, chosen_untried, fail, few, freed
 use Rattle.start_laws.proofs.laws.starts_run_out.Goals as goal
 
 pub returns : goal.returns
-returns c = record {
-  untried = chosen_untried;
-  yours = yours;
-  bind = bind;
-  fail = fail;
-  freed = freed;
-  queues = queues;
-  registered = registered;
-  few = few;
-}
+returns c =
+    let proved = c.history_laws.ensures in
+    record {
+      untried = chosen_untried proved;
+      yours = yours proved;
+      bind = bind;
+      fail = fail;
+      freed = freed;
+      queues = queues;
+      registered = registered;
+      few = few proved;
+    }
