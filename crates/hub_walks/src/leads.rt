@@ -1,4 +1,5 @@
 //! The walk over the leads: of each kind the first request whose deadline is ahead.
+//! Calls of `walk_laws` are for the proofs alone.
 ghost use Rattle.std.specs.Prelude.{◌≡◌, ◌+◌, ◌*◌, ◌≤◌, ◌++◌, ◌∷◌, [], List, ℕ, true, nat_eq, length, IfSome};
 ghost use Rattle.std.specs.List.{list_any};
 ghost use Rattle.grid_types.specs.History.{nodes as nodes_of};
@@ -11,6 +12,7 @@ ghost use Rattle.hub_walks.specs.Stand.{AllTell};
 ghost use Rattle.hub_walks.specs.First.{IsFound, IsMore, NoneBelow, groups_up, is_ahead};
 
 use crate::assignment::{Assignment, first_of};
+use crate::laws::walk_laws;
 use grid_types::{Moment, ReqNo};
 use node_registry::NodeTable;
 use reservation::SlotTable;
@@ -71,6 +73,7 @@ fn with_lead<L: Ledger>(
     ensures answer { AllTell nodes.now slots.now requests.now (λ H. NoneBelow H first at.0 → (leads : List ℕ) → LeadKinds H leads → list_any (nat_eq lead) leads ≡ true → (passed : List ℕ) → IsFound H at.0 passed best → IsFound H at.0 (passed ++ lead ∷ []) result) }
     ensures cost { AllTell nodes.now slots.now requests.now (λ H. is_waiting (place H lead) ≡ true → steps.new ≤ steps.old + length (choices_of H lead) * groups_up H (nodes_of H)) }
 {
+    walk_laws();
     match requests.in_time_of(lead, at) {
         Some(number) => with_request(nodes, slots, requests, best, number, first, at, steps),
         None => best,

@@ -24,17 +24,15 @@ use Rattle.grid_types.specs.declared.entry.Change.TheVariants as change
 use Rattle.grid_types.specs.declared.names.SlotId.{SlotId}
 use Rattle.grid_types.specs.declared.names.Moment.{Moment}
 use Rattle.grid_types.specs.Tables.{entry}
-use Rattle.grid_types.proofs.LegalLemmas.{legal-before, legal-permitted}
-use Rattle.grid_types.proofs.PermittedLemmas.{permitted-Reserved}
-use Rattle.grid_types.proofs.ListedLemmas.{base-registration, listed-registered, up-registered}
+use Rattle.grid_types.specs.HistoryLaws.{Known, laws}
 
-pub row-tells : (c : HubConfig) (H : List Entry) (t : NodeTable) (n : ℕ) (row : NodeRow) → Stands t H → legal c H ≡ true → Some row ≡ get nat_eq t.nodes n → RowTells H n row
-row-tells c H t n row s l e = by_known (s.kept n) (registration_of H n) refl (base_of H n) refl (e ∙ s.rows n)
+pub row-tells : Known → (c : HubConfig) (H : List Entry) (t : NodeTable) (n : ℕ) (row : NodeRow) → Stands t H → legal c H ≡ true → Some row ≡ get nat_eq t.nodes n → RowTells H n row
+row-tells proved c H t n row s l e = by_known (s.kept n) (registration_of H n) refl (base_of H n) refl (e ∙ s.rows n)
   where
     by_known : (v : Bool) (o : Option Registration) → registration_of H n ≡ o → (b : Option Standing) → base_of H n ≡ b → Some row ≡ cond v (row_of H n (last_turn t n)) None → RowTells H n row
     by_known false o d b g h = absurd (cc)
     by_known true None d b g h = let none : Some row ≡ None = h ∙ (rw d refl) in absurd (cc)
-    by_known true (Some r) d None g h = let both : is_some (base_of H n) ≡ is_some (registration_of H n) = base-registration c H n l in absurd (grind (arith, both))
+    by_known true (Some r) d None g h = let both : is_some (base_of H n) ≡ is_some (registration_of H n) = (laws proved).base-registration c H n l in absurd (grind (arith, both))
     by_known true (Some r) d (Some base) g h =
         let there : Some row ≡ Some (row_with H n (last_turn t n) r) = h ∙ (rw d refl) in
         let same : row ≡ row_with H n (last_turn t n) r = cc in
@@ -47,42 +45,42 @@ row-tells c H t n row s l e = by_known (s.kept n) (registration_of H n) refl (ba
           beat = ap (λ (z : NodeRow). z.beat) same;
         }
 
-pub absent-unlisted : (c : HubConfig) (H : List Entry) (t : NodeTable) (n : ℕ) → Stands t H → legal c H ≡ true → None ≡ get nat_eq t.nodes n → is_listed H n ≡ false
-absent-unlisted c H t n s l none = by_listed (is_listed H n) refl
+pub absent-unlisted : Known → (c : HubConfig) (H : List Entry) (t : NodeTable) (n : ℕ) → Stands t H → legal c H ≡ true → None ≡ get nat_eq t.nodes n → is_listed H n ≡ false
+absent-unlisted proved c H t n s l none = by_listed (is_listed H n) refl
   where
     by_listed : (v : Bool) → is_listed H n ≡ v → is_listed H n ≡ false
     by_listed false e = e
     by_listed true e =
-        let r = listed-registered c H n l e in
+        let r = (laws proved).listed-registered c H n l e in
         let there : None ≡ Some (row_with H n (last_turn t n) r.0) = none ∙ s.rows n ∙ (rw (s.listed n e, r.1) refl) in
         absurd (cc)
 
 -- a listed node is in the table
-pub listed-there : {X : Type 0} (c : HubConfig) (H : List Entry) (t : NodeTable) (n : ℕ) → Stands t H → legal c H ≡ true → None ≡ get nat_eq t.nodes n → is_listed H n ≡ true → X
-listed-there c H t n s l none on = let e : true ≡ false = sym on ∙ absent-unlisted c H t n s l none in absurd (cc)
+pub listed-there : Known → {X : Type 0} (c : HubConfig) (H : List Entry) (t : NodeTable) (n : ℕ) → Stands t H → legal c H ≡ true → None ≡ get nat_eq t.nodes n → is_listed H n ≡ true → X
+listed-there proved c H t n s l none on = let e : true ≡ false = sym on ∙ absent-unlisted proved c H t n s l none in absurd (cc)
 
 -- a node that is chosen is in the table
-pub chosen-there : {X : Type 0} (c : HubConfig) (H : List Entry) (k r : ℕ) (slot : SlotId) (choice : ℕ) (at : Moment) (t : NodeTable) → Stands t H →
+pub chosen-there : Known → {X : Type 0} (c : HubConfig) (H : List Entry) (k r : ℕ) (slot : SlotId) (choice : ℕ) (at : Moment) (t : NodeTable) → Stands t H →
     legal c (entry k (change.Reserved r slot choice at) ∷ H) ≡ true → None ≡ get nat_eq t.nodes slot.node → X
-chosen-there c H k r slot choice at t s l none =
-    let fits = permitted-Reserved c H k r slot choice at (legal-permitted c (entry k (change.Reserved r slot choice at)) H l) in
-    let on : is_listed H slot.node ≡ true = rw (up-registered H slot.node fits.is_up) refl in
-    listed-there c H t slot.node s (legal-before c (entry k (change.Reserved r slot choice at)) H l) none on
+chosen-there proved c H k r slot choice at t s l none =
+    let fits = (laws proved).permitted-Reserved c H k r slot choice at ((laws proved).legal-permitted c (entry k (change.Reserved r slot choice at)) H l) in
+    let on : is_listed H slot.node ≡ true = rw ((laws proved).up-registered H slot.node fits.is_up) refl in
+    listed-there proved c H t slot.node s ((laws proved).legal-before c (entry k (change.Reserved r slot choice at)) H l) none on
 
-pub absent-unregistered : (c : HubConfig) (H : List Entry) (t : NodeTable) (n : ℕ) → Stands t H → legal c H ≡ true → None ≡ get nat_eq t.nodes n → is_registered H n ≡ false
-absent-unregistered c H t n s l none = first (is_registered H n) (has_slot_in_use H n) (absent-unlisted c H t n s l none)
+pub absent-unregistered : Known → (c : HubConfig) (H : List Entry) (t : NodeTable) (n : ℕ) → Stands t H → legal c H ≡ true → None ≡ get nat_eq t.nodes n → is_registered H n ≡ false
+absent-unregistered proved c H t n s l none = first (is_registered H n) (has_slot_in_use H n) (absent-unlisted proved c H t n s l none)
   where
     first : (a b : Bool) → (a || b) ≡ false → a ≡ false
     first true b h = cc
     first false b h = refl
 
 -- what holds only of registered nodes doesn't hold of one that isn't there
-pub absent-fails : (c : HubConfig) (H : List Entry) (t : NodeTable) (n : ℕ) (fact : Bool) → Stands t H → legal c H ≡ true → None ≡ get nat_eq t.nodes n → (fact ≡ true → is_registered H n ≡ true) → false ≡ fact
-absent-fails c H t n fact s l none needs = by_fact fact needs
+pub absent-fails : Known → (c : HubConfig) (H : List Entry) (t : NodeTable) (n : ℕ) (fact : Bool) → Stands t H → legal c H ≡ true → None ≡ get nat_eq t.nodes n → (fact ≡ true → is_registered H n ≡ true) → false ≡ fact
+absent-fails proved c H t n fact s l none needs = by_fact fact needs
   where
     by_fact : (v : Bool) → (v ≡ true → is_registered H n ≡ true) → false ≡ v
     by_fact false h = refl
-    by_fact true h = let e : true ≡ false = sym (h refl) ∙ absent-unregistered c H t n s l none in absurd (cc)
+    by_fact true h = let e : true ≡ false = sym (h refl) ∙ absent-unregistered proved c H t n s l none in absurd (cc)
 
 draining_registered : (o : Option Standing) → stands_draining o ≡ true → stands_registered o ≡ true
 draining_registered (Some standing.Draining) h = refl

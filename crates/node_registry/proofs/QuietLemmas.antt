@@ -14,12 +14,10 @@ use Rattle.grid_types.specs.declared.view.Standing.TheVariants as standing
 use Rattle.grid_types.specs.declared.capabilities.Registration.{Registration}
 use Rattle.grid_types.specs.declared.config.HubConfig.{HubConfig}
 use Rattle.grid_types.specs.Legal.{legal}
-use Rattle.grid_types.specs.Lists.{kept}
+use Rattle.grid_types.specs.Lists.{kept, has}
 use Rattle.grid_types.specs.Nodes.{is_registered, is_suspect, is_draining, stands_draining, stands_registered, stands_up}
 use Rattle.grid_types.specs.Tables.{entry}
-use Rattle.grid_types.proofs.LeastLemmas.{has, least-below, reduce-least}
-use Rattle.grid_types.proofs.LegalLemmas.{legal-before, legal-permitted}
-use Rattle.grid_types.proofs.ListedLemmas.{permitted-Draining}
+use Rattle.grid_types.specs.HistoryLaws.{Known, laws}
 use Rattle.node_registry.specs.declared.node_table.NodeRow.{NodeRow}
 use Rattle.node_registry.specs.declared.node_table.NodeTable.{NodeTable}
 use Rattle.node_registry.specs.Table.{IsWithin, Quiet, Stands, NoneDrains, NoneSilent, NoneUnheard, is_heard, is_quiet, is_trusted, heard_in, heard_of, known, noted_drain, noted_heard, noted_sign, sign_in, signed, signs_of}
@@ -101,12 +99,12 @@ up_registered (Some standing.Suspect) h = absurd (cc)
 up_registered None h = absurd (cc)
 
 -- a node that drains was registered
-pub draining-within : (c : HubConfig) (H : List Entry) (k m : ℕ) (at : Moment) (old : NodeTable) → Stands old H → legal c (entry k (change.Draining m at) ∷ H) ≡ true →
+pub draining-within : Known → (c : HubConfig) (H : List Entry) (k m : ℕ) (at : Moment) (old : NodeTable) → Stands old H → legal c (entry k (change.Draining m at) ∷ H) ≡ true →
     (row : NodeRow) → get nat_eq old.nodes m ≡ Some row → RowWithin old row → IsWithin old.quiet_since.0 old.heard_since.0 true (with_base standing.Draining row)
-draining-within c H k m at old s l row there within =
-    let before : legal c H ≡ true = legal-before c (entry k (change.Draining m at)) H l in
-    let tells = row-tells c H old m row s before (sym there) in
-    let up : stands_up (Some row.base) ≡ true = ap stands_up (sym tells.base) ∙ permitted-Draining c H k m at (legal-permitted c (entry k (change.Draining m at)) H l) in
+draining-within proved c H k m at old s l row there within =
+    let before : legal c H ≡ true = (laws proved).legal-before c (entry k (change.Draining m at)) H l in
+    let tells = row-tells proved c H old m row s before (sym there) in
+    let up : stands_up (Some row.base) ≡ true = ap stands_up (sym tells.base) ∙ (laws proved).permitted-Draining c H k m at ((laws proved).legal-permitted c (entry k (change.Draining m at)) H l) in
     let on : stands_registered (Some row.base) ≡ true = up_registered (Some row.base) up in
     record { signs = λ o. within.signs on; heard = λ o trusted. within.heard on trusted; drains = λ o. refl }
 
@@ -143,13 +141,13 @@ none-has [] b e h = absurd (cc)
 none-has (x ∷ xs) b e h = absurd (cc)
 
 -- what is noted is after no sign that counts
-noted-low : (v : Bool) (since at b : ℕ) (xs : List ℕ) → since ≤ b → has b xs ≡ true → cond v since (unwrap_or (reduce min xs) at) ≤ b
-noted-low true since at b xs low there = low
-noted-low false since at b xs low there = by_least (reduce min xs) refl
+noted-low : Known → (v : Bool) (since at b : ℕ) (xs : List ℕ) → since ≤ b → has b xs ≡ true → cond v since (unwrap_or (reduce min xs) at) ≤ b
+noted-low proved true since at b xs low there = low
+noted-low proved false since at b xs low there = by_least (reduce min xs) refl
   where
     by_least : (o : Option ℕ) → reduce min xs ≡ o → unwrap_or o at ≤ b
     by_least None e = none-has xs b e there
-    by_least (Some m) e = least-below xs m b (sym (reduce-least xs) ∙ e) there
+    by_least (Some m) e = (laws proved).least-below xs m b (sym ((laws proved).reduce-least xs) ∙ e) there
 
 both-true : (a b : Bool) → a ≡ true → b ≡ true → (a && b) ≡ true
 both-true true b p q = q
@@ -159,20 +157,20 @@ heard-row : (row : NodeRow) → stands_registered (Some row.base) ≡ true → r
 heard-row row on trusted = both-true (stands_registered (Some row.base)) (not row.suspected) on (ap not trusted)
 
 -- what is noted after a look is true of each row
-pub quiet-noted : (old : NodeTable) (quiet heard : ℕ) (drain : Bool) (at lapse_ms down_ms : ℕ) → Quiet old → quiet ≡ noted_sign old at down_ms → heard ≡ noted_heard old at lapse_ms → drain ≡ noted_drain old →
+pub quiet-noted : Known → (old : NodeTable) (quiet heard : ℕ) (drain : Bool) (at lapse_ms down_ms : ℕ) → Quiet old → quiet ≡ noted_sign old at down_ms → heard ≡ noted_heard old at lapse_ms → drain ≡ noted_drain old →
     (n : ℕ) (row : NodeRow) → get nat_eq old.nodes n ≡ Some row → IsWithin quiet heard drain row
-quiet-noted old quiet heard drain at lapse_ms down_ms q signs_so heard_so drains_so n row there =
+quiet-noted proved old quiet heard drain at lapse_ms down_ms q signs_so heard_so drains_so n row there =
     let was = q n row there in
     record {
       signs = λ on.
           let own : sign_in row ≡ row.beat.0 = rw on refl in
           let low : old.quiet_since.0 ≤ sign_in row = subst (λ (z : ℕ). old.quiet_since.0 ≤ z) (sym own) (was.signs on) in
-          let new_low : noted_sign old at down_ms ≤ sign_in row = noted-low (is_quiet old at down_ms) old.quiet_since.0 at (sign_in row) (signs_of old) low (found-has sign_in (nat_eq n) old.nodes.entries row there) in
+          let new_low : noted_sign old at down_ms ≤ sign_in row = noted-low proved (is_quiet old at down_ms) old.quiet_since.0 at (sign_in row) (signs_of old) low (found-has sign_in (nat_eq n) old.nodes.entries row there) in
           omega (arith, signs_so);
       heard = λ on trusted.
           let own : heard_in row ≡ row.beat.0 = rw (heard-row row on trusted) refl in
           let low : old.heard_since.0 ≤ heard_in row = subst (λ (z : ℕ). old.heard_since.0 ≤ z) (sym own) (was.heard on trusted) in
-          let new_low : noted_heard old at lapse_ms ≤ heard_in row = noted-low (is_heard old at lapse_ms) old.heard_since.0 at (heard_in row) (heard_of old) low (found-has heard_in (nat_eq n) old.nodes.entries row there) in
+          let new_low : noted_heard old at lapse_ms ≤ heard_in row = noted-low proved (is_heard old at lapse_ms) old.heard_since.0 at (heard_in row) (heard_of old) low (found-has heard_in (nat_eq n) old.nodes.entries row there) in
           omega (arith, heard_so);
       drains = λ on. drains_so ∙ both-true old.some_drain _ (was.drains on) (found-any (λ x. stands_draining (Some x.base)) (nat_eq n) old.nodes.entries row there on);
     }
@@ -188,19 +186,19 @@ pub since-none : (v : Bool) (since : ℕ) (o : Option ℕ) (at : ℕ) → v ≡ 
 since-none v since o at e f = ap (λ (z : Option ℕ). unwrap_or z at) f ∙ (rw e refl)
 
 -- a registered node has its row
-pub row-there : {P : Type 0} (c : HubConfig) (H : List Entry) (t : NodeTable) (n : ℕ) → Stands t H → legal c H ≡ true → is_registered H n ≡ true → ((row : NodeRow) → get nat_eq t.nodes n ≡ Some row → RowTells H n row → P) → P
-row-there {P = P} c H t n s l on go = by_row (get nat_eq t.nodes n) refl
+pub row-there : Known → {P : Type 0} (c : HubConfig) (H : List Entry) (t : NodeTable) (n : ℕ) → Stands t H → legal c H ≡ true → is_registered H n ≡ true → ((row : NodeRow) → get nat_eq t.nodes n ≡ Some row → RowTells H n row → P) → P
+row-there proved {P = P} c H t n s l on go = by_row (get nat_eq t.nodes n) refl
   where
     by_row : (o : Option NodeRow) → get nat_eq t.nodes n ≡ o → P
-    by_row None e = let never : true ≡ false = sym on ∙ absent-unregistered c H t n s l (sym e) in absurd (cc)
-    by_row (Some row) e = go row e (row-tells c H t n row s l (sym e))
+    by_row None e = let never : true ≡ false = sym on ∙ absent-unregistered proved c H t n s l (sym e) in absurd (cc)
+    by_row (Some row) e = go row e (row-tells proved c H t n row s l (sym e))
 
 lately : (at since beat silent_ms : ℕ) → nat_lt (at - since) silent_ms ≡ true → since ≤ beat → nat_le silent_ms (at - beat) ≡ false
 lately at since beat silent_ms h low = grind arith
 
 -- what is noted tells of the history
-pub none-silent : (c : HubConfig) (H : List Entry) (t : NodeTable) (at silent_ms : ℕ) → Stands t H → legal c H ≡ true → is_quiet t at silent_ms ≡ true → NoneSilent H at silent_ms
-none-silent c H t at silent_ms s l h n on = row-there c H t n s l on (λ row there tells.
+pub none-silent : Known → (c : HubConfig) (H : List Entry) (t : NodeTable) (at silent_ms : ℕ) → Stands t H → legal c H ≡ true → is_quiet t at silent_ms ≡ true → NoneSilent H at silent_ms
+none-silent proved c H t at silent_ms s l h n on = row-there proved c H t n s l on (λ row there tells.
     let low : t.quiet_since.0 ≤ row.beat.0 = (s.quiet n row there).signs (row-registered H n row tells ∙ on) in
     subst (λ (z : Moment). nat_le silent_ms (at - z.0) ≡ false) tells.beat (lately at t.quiet_since.0 row.beat.0 silent_ms h low))
 
@@ -208,24 +206,24 @@ not_suspected : (a b : Bool) → a ≡ true → (a && b) ≡ false → b ≡ fal
 not_suspected true b p q = q
 not_suspected false b p q = absurd (cc)
 
-pub none-unheard : (c : HubConfig) (H : List Entry) (t : NodeTable) (at silent_ms : ℕ) → Stands t H → legal c H ≡ true → is_heard t at silent_ms ≡ true → NoneUnheard H at silent_ms
-none-unheard c H t at silent_ms s l h n on trusted = row-there c H t n s l on (λ row there tells.
+pub none-unheard : Known → (c : HubConfig) (H : List Entry) (t : NodeTable) (at silent_ms : ℕ) → Stands t H → legal c H ≡ true → is_heard t at silent_ms ≡ true → NoneUnheard H at silent_ms
+none-unheard proved c H t at silent_ms s l h n on trusted = row-there proved c H t n s l on (λ row there tells.
     let stands : stands_registered (Some row.base) ≡ true = row-registered H n row tells ∙ on in
     let low : t.heard_since.0 ≤ row.beat.0 = (s.quiet n row there).heard stands (not_suspected (stands_registered (Some row.base)) row.suspected stands (row-suspect H n row tells ∙ trusted)) in
     subst (λ (z : Moment). nat_le silent_ms (at - z.0) ≡ false) tells.beat (lately at t.heard_since.0 row.beat.0 silent_ms h low))
 
-pub none-drains : (c : HubConfig) (H : List Entry) (t : NodeTable) → Stands t H → legal c H ≡ true → t.some_drain ≡ false → NoneDrains H
-none-drains c H t s l h n = by_drain (is_draining H n) refl
+pub none-drains : Known → (c : HubConfig) (H : List Entry) (t : NodeTable) → Stands t H → legal c H ≡ true → t.some_drain ≡ false → NoneDrains H
+none-drains proved c H t s l h n = by_drain (is_draining H n) refl
   where
     by_drain : (v : Bool) → is_draining H n ≡ v → v ≡ false
     by_drain false e = refl
-    by_drain true e = row-there c H t n s l (draining-registered H n e) (λ row there tells.
+    by_drain true e = row-there proved c H t n s l (draining-registered H n e) (λ row there tells.
         let set : t.some_drain ≡ true = (s.quiet n row there).drains (row-draining H n row tells ∙ e) in
         let never : true ≡ false = sym set ∙ h in absurd (cc))
 
 -- the row at a place is that of its node
-pub place-tells : (c : HubConfig) (H : List Entry) (t : NodeTable) (i n : ℕ) (row : NodeRow) → Stands t H → legal c H ≡ true → slice_get t.nodes.entries i ≡ Some (n, row) → RowTells H n row
-place-tells c H t i n row s l at = row-tells c H t n row s l (sym (hash_map_get_place nat_eq_equiv t.nodes i n row s.nodes_differ at))
+pub place-tells : Known → (c : HubConfig) (H : List Entry) (t : NodeTable) (i n : ℕ) (row : NodeRow) → Stands t H → legal c H ≡ true → slice_get t.nodes.entries i ≡ Some (n, row) → RowTells H n row
+place-tells proved c H t i n row s l at = row-tells proved c H t n row s l (sym (hash_map_get_place nat_eq_equiv t.nodes i n row s.nodes_differ at))
 
 place-key : (es : List (ℕ × NodeRow)) (i : ℕ) → slice_get (keys_of es) i ≡ option_map (λ e. e.0) (slice_get es i)
 place-key [] i = refl

@@ -14,19 +14,18 @@ use Rattle.grid_types.specs.History.{nodes}
 use Rattle.grid_types.specs.Nodes.{registration_of, turned}
 use Rattle.grid_types.specs.Slots.{is_listed}
 use Rattle.grid_types.specs.Legal.{legal}
-use Rattle.grid_types.proofs.LegalLemmas.{legal-before, legal-permitted}
 use Rattle.node_registry.specs.declared.node_table.NodeRow.{NodeRow}
 use Rattle.node_registry.specs.declared.node_table.NodeTable.{NodeTable}
 use Rattle.grid_types.specs.Tables.{OthersKeep, entry, is_node_change}
+use Rattle.grid_types.specs.HistoryLaws.{Known, laws}
 use Rattle.node_registry.specs.Table.{Quiet, Stands, row_of, row_with, turn_in, last_turn}
-use Rattle.grid_types.proofs.ListedLemmas.{listed-before, new-node, registration-before, turned-within}
 use Rattle.node_registry.proofs.Rows.{new_row, with_turn, Rewrites, row-uncounted, row-Registered}
 use Rattle.node_registry.proofs.QuietLemmas.{Loosens, RowWithin, loosened, quiet-put, quiet-mapped, turn-within}
 use Rattle.node_registry.proofs.Fresh.{unregistered-unbound, unregistered-trusted}
 use Rattle.node_registry.proofs.Keys.{filter-last, filter-both, remove-filter}
 
-kept-listed : (c : HubConfig) (H : List Entry) (k n : ℕ) (ch : Change) (t : NodeTable) → (s : Stands t H) → legal c (entry k ch ∷ H) ≡ true → is_listed (entry k ch ∷ H) n ≡ true → s.kept n ≡ true
-kept-listed c H k n ch t s l h = by_either (listed-before c H k n ch l h)
+kept-listed : Known → (c : HubConfig) (H : List Entry) (k n : ℕ) (ch : Change) (t : NodeTable) → (s : Stands t H) → legal c (entry k ch ∷ H) ≡ true → is_listed (entry k ch ∷ H) n ≡ true → s.kept n ≡ true
+kept-listed proved c H k n ch t s l h = by_either ((laws proved).listed-before c H k n ch l h)
   where
     by_either : (registration_of H n ≡ None) ⊎ (is_listed H n ≡ true) → s.kept n ≡ true
     by_either (inl none) = s.unregistered n none
@@ -46,15 +45,15 @@ same-turn H G n true old new before was now = by_registration (registration_of G
         ap turn_in now ∙ gone ∙ sym (ap turn_in was ∙ none)
 
 -- a step that drops no node, where no node's last reservation changes
-pub stands-step : (c : HubConfig) (H : List Entry) (k : ℕ) (ch : Change) (old new : NodeTable) → (s : Stands old H) → legal c (entry k ch ∷ H) ≡ true →
+pub stands-step : Known → (c : HubConfig) (H : List Entry) (k : ℕ) (ch : Change) (old new : NodeTable) → (s : Stands old H) → legal c (entry k ch ∷ H) ≡ true →
     ((n : ℕ) → get nat_eq new.nodes n ≡ cond (s.kept n) (row_of (entry k ch ∷ H) n (last_turn old n)) None) →
     keys new.nodes ≡ filter s.kept (nodes (entry k ch ∷ H)) →
     new.newest_turn ≡ old.newest_turn → ((n : ℕ) → turned (entry k ch ∷ H) n ≡ turned H n) →
     IsUnique nat_eq new.nodes → Quiet new → Stands new (entry k ch ∷ H)
-stands-step c H k ch old new s l rows order same_newest same_turned u quiet = record {
+stands-step proved c H k ch old new s l rows order same_newest same_turned u quiet = record {
   kept = s.kept;
-  unregistered = λ n none. s.unregistered n (registration-before H k n ch none);
-  listed = λ n there. kept-listed c H k n ch old s l there;
+  unregistered = λ n none. s.unregistered n ((laws proved).registration-before H k n ch none);
+  listed = λ n there. kept-listed proved c H k n ch old s l there;
   rows = λ n. rows n ∙ ap (λ (turn : ℕ). cond (s.kept n) (row_of (entry k ch ∷ H) n turn) None) (sym (same_turn n));
   order = order;
   turns = λ n m p q. rw (same_turn n, same_turn m, same_turned n, same_turned m) (s.turns n m p q);
@@ -65,7 +64,7 @@ stands-step c H k ch old new s l rows order same_newest same_turned u quiet = re
 }
   where
     same_turn : (n : ℕ) → last_turn new n ≡ last_turn old n
-    same_turn n = same-turn H (entry k ch ∷ H) n (s.kept n) (get nat_eq old.nodes n) (get nat_eq new.nodes n) (registration-before H k n ch) (s.rows n) (rows n)
+    same_turn n = same-turn H (entry k ch ∷ H) n (s.kept n) (get nat_eq old.nodes n) (get nat_eq new.nodes n) ((laws proved).registration-before H k n ch) (s.rows n) (rows n)
 
 -- the rows after a write to one of them, or to none where it is not there
 pub rows-write : (H G : List Entry) (m : ℕ) (f : NodeRow → NodeRow) (kept : ℕ → Bool) (turn : ℕ → ℕ) (old new : ℕ → Option NodeRow) →
@@ -95,40 +94,40 @@ rows-some m f old new row there write n = write n ∙ by_node (nat_eq m n) refl
     by_node true e = let same : m ≡ n = grind arith in let At : ℕ → Type 0 = λ z. old z ≡ Some row in let here : old n ≡ Some row = subst At same there in rw here refl
     by_node false e = refl
 
-stays : (t : NodeTable) (c : HubConfig) (H : List Entry) (k : ℕ) (ch : Change) → is_node_change ch ≡ false → Stands t H → legal c (entry k ch ∷ H) ≡ true → Stands t (entry k ch ∷ H)
-stays t c H k (change.Registered n r at) o s l = absurd (cc)
-stays t c H k (change.Beaten n at) o s l = absurd (cc)
-stays t c H k (change.Draining n at) o s l = absurd (cc)
-stays t c H k (change.Removed n at) o s l = absurd (cc)
-stays t c H k (change.Lapsed n at) o s l = absurd (cc)
-stays t c H k (change.Suspected n at) o s l = absurd (cc)
-stays t c H k (change.Bound r x y cs at) o s l = absurd (cc)
-stays t c H k (change.Reserved r x choice at) o s l = absurd (cc)
-stays t c H k ch o s l = stands-step c H k ch t t s l (λ n. s.rows n ∙ ap (λ (o : Option NodeRow). cond (s.kept n) o None) (sym (row-uncounted H n (last_turn t n)))) s.order refl (λ n. refl) s.nodes_differ s.quiet
+stays : Known → (t : NodeTable) (c : HubConfig) (H : List Entry) (k : ℕ) (ch : Change) → is_node_change ch ≡ false → Stands t H → legal c (entry k ch ∷ H) ≡ true → Stands t (entry k ch ∷ H)
+stays proved t c H k (change.Registered n r at) o s l = absurd (cc)
+stays proved t c H k (change.Beaten n at) o s l = absurd (cc)
+stays proved t c H k (change.Draining n at) o s l = absurd (cc)
+stays proved t c H k (change.Removed n at) o s l = absurd (cc)
+stays proved t c H k (change.Lapsed n at) o s l = absurd (cc)
+stays proved t c H k (change.Suspected n at) o s l = absurd (cc)
+stays proved t c H k (change.Bound r x y cs at) o s l = absurd (cc)
+stays proved t c H k (change.Reserved r x choice at) o s l = absurd (cc)
+stays proved t c H k ch o s l = stands-step proved c H k ch t t s l (λ n. s.rows n ∙ ap (λ (o : Option NodeRow). cond (s.kept n) o None) (sym (row-uncounted H n (last_turn t n)))) s.order refl (λ n. refl) s.nodes_differ s.quiet
 
 -- an entry of another kind leaves what the table keeps
-pub others-keep : OthersKeep Stands is_node_change
-others-keep t k ch o = record { after = λ c H s l. stays t c H k ch o s l }
+pub others-keep : Known → OthersKeep Stands is_node_change
+others-keep proved t k ch o = record { after = λ c H s l. stays proved t c H k ch o s l }
 
-pub stands-Registered : (c : HubConfig) (H : List Entry) (k m : ℕ) (r : Registration) (at : Moment) (old new : NodeTable) → (s : Stands old H) →
+pub stands-Registered : Known → (c : HubConfig) (H : List Entry) (k m : ℕ) (r : Registration) (at : Moment) (old new : NodeTable) → (s : Stands old H) →
     legal c (entry k (change.Registered m r at) ∷ H) ≡ true →
     ((n : ℕ) → get nat_eq new.nodes n ≡ cond (nat_eq m n) (Some (new_row r at 0)) (get nat_eq old.nodes n)) →
     (get nat_eq old.nodes m ≡ None → keys new.nodes ≡ keys old.nodes ++ m ∷ []) →
     new.newest_turn ≡ old.newest_turn →
     IsUnique nat_eq new.nodes → Loosens old new → RowWithin new (new_row r at 0) → Stands new (entry k (change.Registered m r at) ∷ H)
-stands-Registered c H k m r at old new s l rows order same_newest u looser within =
-    stands-step c H k (change.Registered m r at) old new s l
+stands-Registered proved c H k m r at old new s l rows order same_newest u looser within =
+    stands-step proved c H k (change.Registered m r at) old new s l
     (λ n. rows n ∙ ap (λ (o : Option NodeRow). cond (nat_eq m n) (Some (new_row r at 0)) o) (s.rows n) ∙ by_node n (nat_eq m n) refl
-    ∙ ap (λ (o : Option NodeRow). cond (s.kept n) o None) (sym (row-Registered H k m r at (unregistered-trusted c H m before fresh) (unregistered-unbound c H m before fresh) n (last_turn old n))))
+    ∙ ap (λ (o : Option NodeRow). cond (s.kept n) o None) (sym (row-Registered H k m r at (unregistered-trusted proved c H m before fresh) (unregistered-unbound proved c H m before fresh) n (last_turn old n))))
     (order absent ∙ (rw s.order (sym (filter-last s.kept m (nodes H) here))))
     same_newest (λ n. refl) u
     (quiet-put old new m (λ n. Some (new_row r at 0)) s.quiet looser rows (λ n row e g. let same : new_row r at 0 ≡ row = cc in subst (λ (z : NodeRow). RowWithin new z) same within))
   where
     before : legal c H ≡ true
-    before = legal-before c (entry k (change.Registered m r at)) H l
+    before = (laws proved).legal-before c (entry k (change.Registered m r at)) H l
 
     fresh : registration_of H m ≡ None
-    fresh = new-node c H k m r at before (legal-permitted c (entry k (change.Registered m r at)) H l)
+    fresh = (laws proved).new-node c H k m r at before ((laws proved).legal-permitted c (entry k (change.Registered m r at)) H l)
 
     here : s.kept m ≡ true
     here = s.unregistered m fresh
@@ -146,13 +145,13 @@ stands-Registered c H k m r at old new s l rows order same_newest u looser withi
     by_node n false e = refl
 
 -- a write to one node's row
-pub stands-write : (c : HubConfig) (H : List Entry) (k m : ℕ) (ch : Change) (f : NodeRow → NodeRow) (old new : NodeTable) → (s : Stands old H) → legal c (entry k ch ∷ H) ≡ true →
+pub stands-write : Known → (c : HubConfig) (H : List Entry) (k m : ℕ) (ch : Change) (f : NodeRow → NodeRow) (old new : NodeTable) → (s : Stands old H) → legal c (entry k ch ∷ H) ≡ true →
     Rewrites H (entry k ch) m f → nodes (entry k ch ∷ H) ≡ nodes H → ((n : ℕ) → turned (entry k ch ∷ H) n ≡ turned H n) →
     ((n : ℕ) → get nat_eq new.nodes n ≡ cond (nat_eq m n) (option_map f (get nat_eq old.nodes n)) (get nat_eq old.nodes n)) →
     keys new.nodes ≡ keys old.nodes → new.newest_turn ≡ old.newest_turn → IsUnique nat_eq new.nodes →
     Loosens old new → ((row : NodeRow) → get nat_eq old.nodes m ≡ Some row → RowWithin old row → RowWithin new (f row)) → Stands new (entry k ch ∷ H)
-stands-write c H k m ch f old new s l writes same same_turned rows order same_newest u looser within =
-    stands-step c H k ch old new s l
+stands-write proved c H k m ch f old new s l writes same same_turned rows order same_newest u looser within =
+    stands-step proved c H k ch old new s l
     (rows-write H (entry k ch ∷ H) m f s.kept (last_turn old) (get nat_eq old.nodes) (get nat_eq new.nodes) writes s.rows rows)
     (order ∙ s.order ∙ ap (filter s.kept) (sym same)) same_newest same_turned u
     (quiet-mapped old new m f s.quiet looser rows within)
@@ -164,14 +163,14 @@ not-less : (a b : ℕ) → a ≤ b → nat_lt b a ≡ false
 not-less a b h = grind arith
 
 -- the reservation has the next number, which the node's row keeps
-pub stands-Reserved : (c : HubConfig) (H : List Entry) (k r : ℕ) (t : SlotId) (choice : ℕ) (at : Moment) (row : NodeRow) (old new : NodeTable) → (s : Stands old H) →
+pub stands-Reserved : Known → (c : HubConfig) (H : List Entry) (k r : ℕ) (t : SlotId) (choice : ℕ) (at : Moment) (row : NodeRow) (old new : NodeTable) → (s : Stands old H) →
     legal c (entry k (change.Reserved r t choice at) ∷ H) ≡ true → get nat_eq old.nodes t.node ≡ Some row →
     ((n : ℕ) → get nat_eq new.nodes n ≡ cond (nat_eq t.node n) (option_map (with_turn new.newest_turn) (get nat_eq old.nodes n)) (get nat_eq old.nodes n)) →
     keys new.nodes ≡ keys old.nodes → new.newest_turn ≡ old.newest_turn + 1 → IsUnique nat_eq new.nodes → Loosens old new → Stands new (entry k (change.Reserved r t choice at) ∷ H)
-stands-Reserved c H k r t choice at row old new s l there rows order counted u looser = record {
+stands-Reserved proved c H k r t choice at row old new s l there rows order counted u looser = record {
   kept = s.kept;
   unregistered = λ n none. s.unregistered n none;
-  listed = λ n on. kept-listed c H k n (change.Reserved r t choice at) old s l on;
+  listed = λ n on. kept-listed proved c H k n (change.Reserved r t choice at) old s l on;
   rows = λ n. rows n ∙ by_row n (nat_eq t.node n) refl;
   order = order ∙ s.order;
   turns = λ a b p q. by_nodes a b (nat_eq t.node a) refl (nat_eq t.node b) refl (s.turns a b p q);
@@ -223,10 +222,10 @@ stands-Reserved c H k r t choice at row old new s l there rows order counted u l
         rw (own a d, own b e, now a d, now b e) (not-less new.newest_turn new.newest_turn (omega arith) ∙ sym (not-less (length H + 1) (length H + 1) (omega arith)))
     by_nodes a b true d false e before =
         let low : last_turn new b ≤ new.newest_turn = (let under : last_turn new b < new.newest_turn = below b e in omega arith) in
-        let past : turned H b ≤ length H + 1 = (let within : turned H b ≤ length H = turned-within H b in omega arith) in
+        let past : turned H b ≤ length H + 1 = (let within : turned H b ≤ length H = (laws proved).turned-within H b in omega arith) in
         rw (own a d, now a d, was b e) (not-less (last_turn new b) new.newest_turn low ∙ sym (not-less (turned H b) (length H + 1) past))
     by_nodes a b false d true e before =
-        let past : turned H a < length H + 1 = (let within : turned H a ≤ length H = turned-within H a in omega arith) in
+        let past : turned H a < length H + 1 = (let within : turned H a ≤ length H = (laws proved).turned-within H a in omega arith) in
         rw (own b e, now b e, was a d) (less (last_turn new a) new.newest_turn (below a d) ∙ sym (less (turned H a) (length H + 1) past))
     by_nodes a b false d false e before = rw (other a d, other b e, was a d, was b e) before
 

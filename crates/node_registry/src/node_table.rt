@@ -1,4 +1,4 @@
-//! The table of nodes.
+//! The table of nodes. Calls of `history_laws` are for the proofs alone.
 ghost use Rattle.std.specs.Prelude.{◌≡◌, ◌+◌, ℕ, [], true, false, ◌&&◌, not, if◌then◌else◌, map, min, IsOk, OnOk, OnErr, Some, option_map, length, slice_get, find};
 ghost use Rattle.std.specs.List.{list_any, reduce};
 ghost use Rattle.std.specs.Option.{option_copied};
@@ -18,6 +18,7 @@ mod by_index;
 
 use grid_types::{
     Caps, Moment, NoMemory, NodeNo, Registration, ReqNo, SessionId, SlotId, Standing, Text,
+    history_laws,
 };
 use indexmap::IndexMap;
 use std::alloc::Global;
@@ -208,6 +209,7 @@ impl NodeTable {
         ensures stands { OnOk result ((caller : ℕ) → Follows Stands self.old self.new caller (change.Registered node registration.now at)) }
         ensures refused { OnErr result (Keeps Stands self.old self.new) }
     {
+        history_laws();
         self.nodes.reserve(1)?;
         let row = NodeRow {
             registration: registration.clone()?,
@@ -227,6 +229,7 @@ impl NodeTable {
     pub fn beaten(&mut self, node: NodeNo, at: Moment)
         ensures { (caller : ℕ) → Follows Stands self.old self.new caller (change.Beaten node at) }
     {
+        history_laws();
         self.quiet_since = earlier(self.quiet_since, at);
         self.heard_since = earlier(self.heard_since, at);
         if let Some(alive) = self.nodes.get_mut(&node) {
@@ -239,6 +242,7 @@ impl NodeTable {
     pub fn suspected(&mut self, node: NodeNo, _at: Moment)
         ensures { (caller : ℕ) → Follows Stands self.old self.new caller (change.Suspected node _at) }
     {
+        history_laws();
         if let Some(silent) = self.nodes.get_mut(&node) {
             silent.suspected = true;
         }
@@ -248,6 +252,7 @@ impl NodeTable {
     pub fn draining(&mut self, node: NodeNo, _at: Moment)
         ensures { (caller : ℕ) → Follows Stands self.old self.new caller (change.Draining node _at) }
     {
+        history_laws();
         self.some_drain = true;
         if let Some(drained) = self.nodes.get_mut(&node) {
             drained.base = Standing::Draining;
@@ -258,6 +263,7 @@ impl NodeTable {
     pub fn removed(&mut self, node: NodeNo, _at: Moment)
         ensures { (caller : ℕ) → Follows Stands self.old self.new caller (change.Removed node _at) }
     {
+        history_laws();
         if let Some(gone) = self.nodes.get_mut(&node) {
             gone.base = Standing::Gone;
         }
@@ -267,6 +273,7 @@ impl NodeTable {
     pub fn lapsed(&mut self, node: NodeNo, _at: Moment)
         ensures { (caller : ℕ) → Follows Stands self.old self.new caller (change.Lapsed node _at) }
     {
+        history_laws();
         if let Some(lost) = self.nodes.get_mut(&node) {
             lost.base = Standing::Down;
         }
@@ -298,6 +305,7 @@ impl NodeTable {
         ensures refused { OnErr result (Keeps Stands self.old self.new) }
         ensures done { HasRoom self.old → IsOk result }
     {
+        history_laws();
         let Some(turn) = self.newest_turn.checked_add(1) else {
             return Err(NoMemory);
         };
@@ -319,6 +327,7 @@ impl NodeTable {
     )
         ensures { (caller : ℕ) → Follows Stands self.old self.new caller (change.Bound _request slot _session _caps.now _at) }
     {
+        history_laws();
         if let Some(used) = self.nodes.get_mut(&slot.node) {
             used.bound = used.bound.saturating_add(1);
         }
@@ -337,6 +346,7 @@ impl NodeTable {
         ensures exact { result ≡ is_quiet self.now at.0 silent_ms }
         ensures sure { Tells Stands self.now (λ H. result ≡ true → NoneSilent H at.0 silent_ms) }
     {
+        history_laws();
         at.0.saturating_sub(self.quiet_since.0) < silent_ms
     }
 
@@ -345,6 +355,7 @@ impl NodeTable {
         ensures exact { result ≡ is_heard self.now at.0 silent_ms }
         ensures sure { Tells Stands self.now (λ H. result ≡ true → NoneUnheard H at.0 silent_ms) }
     {
+        history_laws();
         at.0.saturating_sub(self.heard_since.0) < silent_ms
     }
 
@@ -353,6 +364,7 @@ impl NodeTable {
         ensures exact { result ≡ self.now.some_drain }
         ensures sure { Tells Stands self.now (λ H. result ≡ false → NoneDrains H) }
     {
+        history_laws();
         self.some_drain
     }
 
@@ -364,6 +376,7 @@ impl NodeTable {
         ensures kept { Keeps Stands self.old self.new }
         ensures noted { NotesQuiet self.old self.new at.0 lapse_ms down_ms }
     {
+        history_laws();
         let quiet_since = self.next_quiet_since(at, down_ms);
         let heard_since = self.next_heard_since(at, lapse_ms);
         let some_drain = self.still_drains();
@@ -406,6 +419,7 @@ impl NodeTable {
     pub fn is_registered(&self, node: NodeNo) -> bool
         ensures { Tells Stands self.now (λ H. result ≡ is_registered H node) }
     {
+        history_laws();
         match self.nodes.get(&node) {
             Some(row) => row.is_registered(),
             None => false,
@@ -416,6 +430,7 @@ impl NodeTable {
     pub fn is_base_up(&self, node: NodeNo) -> bool
         ensures { Tells Stands self.now (λ H. result ≡ is_base_up H node) }
     {
+        history_laws();
         match self.nodes.get(&node) {
             Some(row) => row.is_base_up(),
             None => false,
@@ -426,6 +441,7 @@ impl NodeTable {
     pub fn is_draining(&self, node: NodeNo) -> bool
         ensures { Tells Stands self.now (λ H. result ≡ is_draining H node) }
     {
+        history_laws();
         match self.nodes.get(&node) {
             Some(row) => row.is_draining(),
             None => false,
@@ -436,6 +452,7 @@ impl NodeTable {
     pub fn is_suspect(&self, node: NodeNo) -> bool
         ensures { Tells Stands self.now (λ H. result ≡ is_suspect H node) }
     {
+        history_laws();
         match self.nodes.get(&node) {
             Some(row) => row.is_suspect(),
             None => false,
@@ -446,6 +463,7 @@ impl NodeTable {
     pub fn is_up(&self, node: NodeNo) -> bool
         ensures { Tells Stands self.now (λ H. result ≡ is_up H node) }
     {
+        history_laws();
         match self.nodes.get(&node) {
             Some(row) => row.is_up(),
             None => false,
@@ -456,6 +474,7 @@ impl NodeTable {
     pub fn standing(&self, node: NodeNo) -> Option<Standing>
         ensures { Tells Stands self.now (λ H. is_listed H node ≡ true → result ≡ standing_of H node) }
     {
+        history_laws();
         Some(self.nodes.get(&node)?.standing())
     }
 
@@ -463,6 +482,7 @@ impl NodeTable {
     pub fn is_spent(&self, node: NodeNo) -> bool
         ensures { Tells Stands self.now (λ H. is_listed H node ≡ true → result ≡ is_spent H node) }
     {
+        history_laws();
         match self.nodes.get(&node) {
             Some(row) => row.is_spent(),
             None => false,
@@ -474,6 +494,7 @@ impl NodeTable {
     pub fn has_sessions_left(&self, node: NodeNo, held: u16) -> bool
         ensures { Tells Stands self.now (λ H. is_listed H node ≡ true → held ≡ held_count H node → result ≡ has_sessions_left H node) }
     {
+        history_laws();
         match self.nodes.get(&node) {
             Some(row) => row.has_sessions_left(held),
             None => false,
@@ -484,6 +505,7 @@ impl NodeTable {
     pub fn beat(&self, node: NodeNo) -> Option<Moment>
         ensures { Tells Stands self.now (λ H. is_listed H node ≡ true → result ≡ Some (record { 0 = beat_of H node })) }
     {
+        history_laws();
         Some(self.nodes.get(&node)?.beat)
     }
 
@@ -524,6 +546,7 @@ impl NodeTable {
     pub fn sign_at(&self, index: usize) -> Option<(NodeNo, Moment)>
         ensures { Tells Stands self.now (λ H. result ≡ option_map (signed H) (kept (is_registered H) (slice_get (known self.now) index))) }
     {
+        history_laws();
         let (node, row) = self.nodes.get_index(index)?;
         if row.is_registered() {
             Some((*node, row.beat))
@@ -536,6 +559,7 @@ impl NodeTable {
     pub fn heard_at(&self, index: usize) -> Option<(NodeNo, Moment)>
         ensures { Tells Stands self.now (λ H. result ≡ option_map (signed H) (kept (is_trusted H) (slice_get (known self.now) index))) }
     {
+        history_laws();
         let (node, row) = self.nodes.get_index(index)?;
         if row.is_heard() {
             Some((*node, row.beat))
@@ -548,6 +572,7 @@ impl NodeTable {
     pub fn draining_at(&self, index: usize) -> Option<NodeNo>
         ensures { Tells Stands self.now (λ H. result ≡ kept (is_draining H) (slice_get (known self.now) index)) }
     {
+        history_laws();
         let (node, row) = self.nodes.get_index(index)?;
         if row.is_draining() { Some(*node) } else { None }
     }

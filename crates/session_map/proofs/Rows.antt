@@ -11,12 +11,12 @@ use Rattle.grid_types.specs.declared.capabilities.Cap.{Cap}
 use Rattle.grid_types.specs.declared.config.HubConfig.{HubConfig}
 use Rattle.grid_types.specs.Nodes.{address_of}
 use Rattle.grid_types.specs.Bindings.{Running, bound_of}
-use Rattle.grid_types.specs.Sessions.{is_live, live}
+use Rattle.grid_types.specs.Sessions.{is_live, live, is_at_node}
 use Rattle.grid_types.specs.Legal.{legal}
-use Rattle.grid_types.proofs.MapLemmas.{live-Bound, live-Lapsed, is_at_node}
 use Rattle.session_map.specs.declared.live_map.LiveSession.{LiveSession}
 use Rattle.session_map.specs.declared.live_map.Place.{Place}
 use Rattle.grid_types.specs.Tables.{entry}
+use Rattle.grid_types.specs.HistoryLaws.{Known, laws}
 use Rattle.session_map.specs.Names.{session_eq}
 use Rattle.session_map.specs.Table.{session_row, place_row, place_of}
 use Rattle.session_map.proofs.SessionNames.{session_eq-is}
@@ -69,14 +69,14 @@ session-Lapsed H k n at b = by_bound (bound_of H b) refl
     by_bound (Some x) d = grind arith
 
 -- by its id
-pub place-Bound : (c : HubConfig) (H : List Entry) (k r : ℕ) (t : SlotId) (y : List ℕ) (cs : List Cap) (at : Moment) (s : List ℕ) →
+pub place-Bound : Known → (c : HubConfig) (H : List Entry) (k r : ℕ) (t : SlotId) (y : List ℕ) (cs : List Cap) (at : Moment) (s : List ℕ) →
     legal c (entry k (change.Bound r t y cs at) ∷ H) ≡ true →
     place_row (entry k (change.Bound r t y cs at) ∷ H) s ≡ cond (session_eq y s) (Some (record { slot = t; address = address_of H t.node; binding = r })) (place_row H s)
-place-Bound c H k r t y cs at s l = rw (live-Bound c H k r t y cs at s l, session_eq-is y s) (elim (bytes_eq y s) as (λ v. option_map place_of (cond v (Some (record { session = y; slot = t; address = address_of H t.node; binding = r })) (live H s)) ≡ cond v (Some (record { slot = t; address = address_of H t.node; binding = r })) (place_row H s)) [ true ↦ refl | false ↦ refl ])
+place-Bound proved c H k r t y cs at s l = rw ((laws proved).live-Bound c H k r t y cs at s l, session_eq-is y s) (elim (bytes_eq y s) as (λ v. option_map place_of (cond v (Some (record { session = y; slot = t; address = address_of H t.node; binding = r })) (live H s)) ≡ cond v (Some (record { slot = t; address = address_of H t.node; binding = r })) (place_row H s)) [ true ↦ refl | false ↦ refl ])
 
-pub place-Lapsed : (c : HubConfig) (H : List Entry) (k n : ℕ) (at : Moment) (s : List ℕ) → legal c H ≡ true →
+pub place-Lapsed : Known → (c : HubConfig) (H : List Entry) (k n : ℕ) (at : Moment) (s : List ℕ) → legal c H ≡ true →
     place_row (entry k (change.Lapsed n at) ∷ H) s ≡ option_filter (place_stays n) (place_row H s)
-place-Lapsed c H k n at s l = rw (live-Lapsed c H k n at s l) (by_live (live H s))
+place-Lapsed proved c H k n at s l = rw ((laws proved).live-Lapsed c H k n at s l) (by_live (live H s))
   where
     by_live : (o : Option Running) → option_map place_of (cond (is_at_node n o) None o) ≡ option_filter (place_stays n) (option_map place_of o)
     by_live None = refl

@@ -6,7 +6,7 @@ use Rattle.grid_types.specs.declared.names.SlotId.{SlotId}
 use Rattle.grid_types.specs.Lists.{kept}
 use Rattle.grid_types.specs.Bindings.{Running, bound_of}
 use Rattle.grid_types.specs.Sessions.{is_live, active}
-use Rattle.grid_types.proofs.RunningLemmas.{running-of}
+use Rattle.grid_types.specs.HistoryLaws.{Known, laws}
 use Rattle.session_map.specs.declared.live_map.LiveSession.{LiveSession}
 use Rattle.session_map.specs.Table.{RunsSince, session_row}
 
@@ -32,13 +32,13 @@ none_says true (Some y) used there is = absurd (cc)
 none_says false o used there is = refl
 
 -- a live binding has its Bound
-bound_there : (H : List Entry) (b : ℕ) → is_live H b ≡ true → is_some (bound_of H b) ≡ true
-bound_there H b live =
-    let x = running-of H b live in
+bound_there : Known → (H : List Entry) (b : ℕ) → is_live H b ≡ true → is_some (bound_of H b) ≡ true
+bound_there proved H b live =
+    let x = (laws proved).running-of H b live in
     ap is_some (subst (λ (n : ℕ). bound_of H n ≡ Some x.0) x.2 x.1.bound)
 
-pub no_row : (H : List Entry) (b : ℕ) → None ≡ session_row H b → is_live H b ≡ false
-no_row H b is = none_says (is_live H b) (bound_of H b) (active H b) (bound_there H b) is
+pub no_row : Known → (H : List Entry) (b : ℕ) → None ≡ session_row H b → is_live H b ≡ false
+no_row proved H b is = none_says (is_live H b) (bound_of H b) (active H b) (bound_there proved H b) is
 
 pub row_tells : (H : List Entry) (b : ℕ) (x : LiveSession) → Some x ≡ session_row H b → RunsSince H b x.slot x.active
 row_tells H b x is =

@@ -13,10 +13,10 @@ use Rattle.grid_types.specs.declared.capabilities.Cap.{Cap}
 use Rattle.grid_types.specs.declared.config.HubConfig.{HubConfig}
 use Rattle.grid_types.specs.Nodes.{address_of}
 use Rattle.grid_types.specs.Legal.{legal}
-use Rattle.grid_types.proofs.LegalLemmas.{legal-before}
 use Rattle.session_map.specs.declared.live_map.LiveSession.{LiveSession}
 use Rattle.session_map.specs.declared.live_map.LiveMap.{LiveMap}
 use Rattle.grid_types.specs.Tables.{entry}
+use Rattle.grid_types.specs.HistoryLaws.{Known, laws}
 use Rattle.session_map.specs.Names.{session_cmp, session_eq}
 use Rattle.session_map.specs.Table.{Stands, Quiet, place_in}
 use Rattle.session_map.proofs.Rows.{session-Bound, session-Touched, session-Ended, session-Lapsed, place-Bound, place-Lapsed, touch_row, stays, place_stays}
@@ -53,14 +53,14 @@ quiet-filter old new p before rows same b x h =
     let was : old.quiet_since.0 ≤ x.active.0 = before b x (filtered_there p (get nat_eq old.sessions b) x (sym (rows b) ∙ h)) in
     let number : new.quiet_since.0 ≡ old.quiet_since.0 = ap (λ (m : Moment). m.0) same in omega arith
 
-pub stands-Bound : (c : HubConfig) (H : List Entry) (k r : ℕ) (t : SlotId) (y : List ℕ) (cs : List Cap) (at : Moment) (address : List ℕ) (old new : LiveMap) →
+pub stands-Bound : Known → (c : HubConfig) (H : List Entry) (k r : ℕ) (t : SlotId) (y : List ℕ) (cs : List Cap) (at : Moment) (address : List ℕ) (old new : LiveMap) →
     Stands old H → address ≡ address_of H t.node → legal c (entry k (change.Bound r t y cs at) ∷ H) ≡ true →
     ((b : ℕ) → get nat_eq new.sessions b ≡ cond (nat_eq r b) (Some (record { session = y; slot = t; active = at })) (get nat_eq old.sessions b)) →
     ((s : List ℕ) → place_in new s ≡ cond (session_eq y s) (Some (record { slot = t; address = address; binding = r })) (place_in old s)) →
     Quiet new → IsUnique nat_eq new.sessions → tree.IsOrdered session_cmp new.places → Stands new (entry k (change.Bound r t y cs at) ∷ H)
-stands-Bound c H k r t y cs at address old new s where_it_is l sessions places quiet u v = record {
+stands-Bound proved c H k r t y cs at address old new s where_it_is l sessions places quiet u v = record {
   sessions = λ b. sessions b ∙ (rw (s.sessions b) (sym (session-Bound H k r t y cs at b)));
-  places = λ x. places x ∙ (rw (s.places x, where_it_is) (sym (place-Bound c H k r t y cs at x l)));
+  places = λ x. places x ∙ (rw (s.places x, where_it_is) (sym (place-Bound proved c H k r t y cs at x l)));
   quiet = quiet;
   bindings_differ = u;
   in_order = v;
@@ -78,40 +78,40 @@ stands-Touched H k q at old new s sessions places quiet u v = record {
   in_order = v;
 }
 
-pub stands-Ended : (c : HubConfig) (H : List Entry) (k q : ℕ) (cause : EndCause) (at : Moment) (row : LiveSession) (old new : LiveMap) → Stands old H →
+pub stands-Ended : Known → (c : HubConfig) (H : List Entry) (k q : ℕ) (cause : EndCause) (at : Moment) (row : LiveSession) (old new : LiveMap) → Stands old H →
     legal c (entry k (change.Ended q cause at) ∷ H) ≡ true → get nat_eq old.sessions q ≡ Some row →
     ((b : ℕ) → get nat_eq new.sessions b ≡ cond (nat_eq q b) None (get nat_eq old.sessions b)) →
     ((s : List ℕ) → place_in new s ≡ cond (session_eq row.session s) None (place_in old s)) →
     Quiet new → IsUnique nat_eq new.sessions → tree.IsOrdered session_cmp new.places → Stands new (entry k (change.Ended q cause at) ∷ H)
-stands-Ended c H k q cause at row old new s l there sessions places quiet u v = record {
+stands-Ended proved c H k q cause at row old new s l there sessions places quiet u v = record {
   sessions = λ b. sessions b ∙ (rw (s.sessions b) (sym (session-Ended H k q cause at b)));
-  places = λ x. places x ∙ (rw (s.places x) (sym (place-Ended c H k q cause at x row (legal-before c (entry k (change.Ended q cause at)) H l) (sym (s.sessions q) ∙ there))));
+  places = λ x. places x ∙ (rw (s.places x) (sym (place-Ended proved c H k q cause at x row ((laws proved).legal-before c (entry k (change.Ended q cause at)) H l) (sym (s.sessions q) ∙ there))));
   quiet = quiet;
   bindings_differ = u;
   in_order = v;
 }
 
-pub stands-Ended_none : (c : HubConfig) (H : List Entry) (k q : ℕ) (cause : EndCause) (at : Moment) (old new : LiveMap) → Stands old H →
+pub stands-Ended_none : Known → (c : HubConfig) (H : List Entry) (k q : ℕ) (cause : EndCause) (at : Moment) (old new : LiveMap) → Stands old H →
     legal c (entry k (change.Ended q cause at) ∷ H) ≡ true → get nat_eq old.sessions q ≡ None →
     ((b : ℕ) → get nat_eq new.sessions b ≡ cond (nat_eq q b) None (get nat_eq old.sessions b)) →
     ((s : List ℕ) → place_in new s ≡ place_in old s) →
     Quiet new → IsUnique nat_eq new.sessions → tree.IsOrdered session_cmp new.places → Stands new (entry k (change.Ended q cause at) ∷ H)
-stands-Ended_none c H k q cause at old new s l there sessions places quiet u v = record {
+stands-Ended_none proved c H k q cause at old new s l there sessions places quiet u v = record {
   sessions = λ b. sessions b ∙ (rw (s.sessions b) (sym (session-Ended H k q cause at b)));
-  places = λ x. places x ∙ (rw (s.places x) (sym (place-Ended_none c H k q cause at x (legal-before c (entry k (change.Ended q cause at)) H l) (sym (s.sessions q) ∙ there))));
+  places = λ x. places x ∙ (rw (s.places x) (sym (place-Ended_none proved c H k q cause at x ((laws proved).legal-before c (entry k (change.Ended q cause at)) H l) (sym (s.sessions q) ∙ there))));
   quiet = quiet;
   bindings_differ = u;
   in_order = v;
 }
 
-pub stands-Lapsed : (c : HubConfig) (H : List Entry) (k n : ℕ) (at : Moment) (old new : LiveMap) → Stands old H →
+pub stands-Lapsed : Known → (c : HubConfig) (H : List Entry) (k n : ℕ) (at : Moment) (old new : LiveMap) → Stands old H →
     legal c (entry k (change.Lapsed n at) ∷ H) ≡ true →
     ((b : ℕ) → get nat_eq new.sessions b ≡ option_filter (stays n) (get nat_eq old.sessions b)) →
     ((s : List ℕ) → place_in new s ≡ option_filter (place_stays n) (place_in old s)) →
     Quiet new → IsUnique nat_eq new.sessions → tree.IsOrdered session_cmp new.places → Stands new (entry k (change.Lapsed n at) ∷ H)
-stands-Lapsed c H k n at old new s l sessions places quiet u v = record {
+stands-Lapsed proved c H k n at old new s l sessions places quiet u v = record {
   sessions = λ b. sessions b ∙ (rw (s.sessions b) (sym (session-Lapsed H k n at b)));
-  places = λ x. places x ∙ (rw (s.places x) (sym (place-Lapsed c H k n at x (legal-before c (entry k (change.Lapsed n at)) H l))));
+  places = λ x. places x ∙ (rw (s.places x) (sym (place-Lapsed proved c H k n at x ((laws proved).legal-before c (entry k (change.Lapsed n at)) H l))));
   quiet = quiet;
   bindings_differ = u;
   in_order = v;

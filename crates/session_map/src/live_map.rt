@@ -1,4 +1,4 @@
-//! The table of live sessions.
+//! The table of live sessions. Calls of `history_laws` are for the proofs alone.
 ghost use Rattle.std.specs.Prelude.{◌≡◌, ℕ, List, [], IsOk, OnOk, OnErr, false, MatchOption, not, nat_eq, nat_lt, nat_le, option_map, map, filter, ◌-◌, min};
 ghost use Rattle.std.specs.List.{reduce};
 ghost use Rattle.grid_types.specs.declared.entry.Change.TheVariants as change;
@@ -13,6 +13,7 @@ mod ahead;
 use crate::session_key::SessionKey;
 use grid_types::{
     Caps, EndCause, Found, Moment, NoMemory, NodeAddress, NodeNo, ReqNo, SessionId, SlotId,
+    history_laws,
 };
 use indexmap::IndexMap;
 use std::alloc::Global;
@@ -107,6 +108,7 @@ impl LiveMap {
         ensures refused { OnErr result (Keeps Stands self.old self.new) }
         ensures sure { HasRoomFor self.old session → IsOk result }
     {
+        history_laws();
         self.sessions.reserve(1)?;
         let place = Place {
             slot,
@@ -141,6 +143,7 @@ impl LiveMap {
     pub fn ended(&mut self, binding: ReqNo, _cause: EndCause, _at: Moment)
         ensures { (caller : ℕ) → Follows Stands self.old self.new caller (change.Ended binding _cause _at) }
     {
+        history_laws();
         if let Some(ended) = self.sessions.swap_remove(&binding) {
             self.remove_place(ended.session);
         }
@@ -150,6 +153,7 @@ impl LiveMap {
     pub fn lapsed(&mut self, node: NodeNo, _at: Moment)
         ensures { (caller : ℕ) → Follows Stands self.old self.new caller (change.Lapsed node _at) }
     {
+        history_laws();
         self.sessions.retain(
             |_binding: &ReqNo, session: &mut LiveSession| -> bool
                 ensures { (result ≡ not (nat_eq session.old.slot.node node)) × (session.new ≡ session.old) }
@@ -181,6 +185,7 @@ impl LiveMap {
     pub fn run_of(&self, binding: ReqNo) -> Option<(SlotId, Moment)>
         ensures { Tells Stands self.now (λ H. MatchOption result (is_live H binding ≡ false) (λ run. RunsSince H binding run.0 run.1)) }
     {
+        history_laws();
         match self.row(binding) {
             Some(session) => Some((session.slot, session.active)),
             None => None,
@@ -192,6 +197,7 @@ impl LiveMap {
     pub fn least_idle(&self, at: Moment, idle_ms: u64) -> Option<ReqNo>
         ensures { Tells Stands self.now (λ H. result ≡ least nat_lt (idle_bindings H idle_ms at.0)) }
     {
+        history_laws();
         if self.is_quiet(at, idle_ms) {
             return None;
         }
@@ -205,6 +211,7 @@ impl LiveMap {
         ensures kept { Keeps Stands self.old self.new }
         ensures noted { self.new.quiet_since.0 ≡ noted_use self.old at.0 idle_ms }
     {
+        history_laws();
         if self.is_quiet(at, idle_ms) {
             return;
         }

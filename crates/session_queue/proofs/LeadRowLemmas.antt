@@ -5,8 +5,8 @@ use Rattle.std.specs.List.{list_any}
 use Rattle.grid_types.specs.declared.entry.Entry.{Entry}
 use Rattle.grid_types.specs.declared.entry.Outcome.{Outcome}
 use Rattle.grid_types.specs.Requests.{place, is_waiting}
-use Rattle.grid_types.proofs.ListLemmas.{and_left, and_right}
-use Rattle.grid_types.proofs.LeastLemmas.{has}
+use Rattle.grid_types.specs.Lists.{has}
+use Rattle.session_queue.specs.Laws.{Known, laws}
 use Rattle.dispatch_laws.specs.Kinds.{is_alike}
 use Rattle.dispatch_laws.specs.Leads.{Leads, LeadKinds}
 use Rattle.session_queue.specs.declared.request.Request.{Request}
@@ -14,14 +14,15 @@ use Rattle.session_queue.specs.declared.request_table.RequestTable.{RequestTable
 use Rattle.session_queue.specs.Table.{row, Stands, waits, are_like, alike_in, waits_in, waits_but, KeepsLeads, Leaves, Joins, AddsLead, DropsLead, IsNextLike, FindsLike, MapsRow, Settles, SetsRow, SameRows, settling, bytes_in}
 use Rattle.session_queue.proofs.FirstLemmas.{gone_waits}
 use Rattle.session_queue.proofs.AlikeLemmas.{rows-symm, rows-congr, like-self, like-rows}
-use Rattle.session_queue.proofs.LeadLemmas.{Divides, leads-same, replaced, dropped, added, covered-too, uncovered, without, same-is, other-is, above-is}
+use Rattle.session_queue.specs.RequestLaws.{Divides}
+use Rattle.session_queue.proofs.LeadLemmas.{leads-same, replaced, dropped, added, covered-too, uncovered, without, same-is, other-is, above-is}
 
-divides : (t : RequestTable) → Divides (alike_in t)
-divides t = record { symm = λ q r. rows-symm (row t q) (row t r); congr = λ p q r. rows-congr (row t p) (row t q) (row t r) }
+divides : Known → (t : RequestTable) → Divides (alike_in t)
+divides proved t = record { symm = λ q r. rows-symm proved (row t q) (row t r); congr = λ p q r. rows-congr proved (row t p) (row t q) (row t r) }
 
-waits-self : (o : Option Request) → waits o ≡ true → are_like o o ≡ true
-waits-self None h = absurd (cc)
-waits-self (Some q) h = like-self q
+waits-self : Known → (o : Option Request) → waits o ≡ true → are_like o o ≡ true
+waits-self proved None h = absurd (cc)
+waits-self proved (Some q) h = like-self proved q
 
 not-true : (v : Bool) → not v ≡ true → v ≡ false
 not-true true h = absurd (cc)
@@ -32,19 +33,19 @@ and-none true = refl
 and-none false = refl
 
 -- a number that counts without this one
-but-waits : (t : RequestTable) (r n : ℕ) → waits_but t r n ≡ true → waits_in t n ≡ true
-but-waits t r n h = and_left (waits (row t n)) (not (nat_eq r n)) h
+but-waits : Known → (t : RequestTable) (r n : ℕ) → waits_but t r n ≡ true → waits_in t n ≡ true
+but-waits proved t r n h = (laws proved).history.and_left (waits (row t n)) (not (nat_eq r n)) h
 
-but-other : (t : RequestTable) (r n : ℕ) → waits_but t r n ≡ true → nat_eq r n ≡ false
-but-other t r n h = not-true (nat_eq r n) (and_right (waits (row t n)) (not (nat_eq r n)) h)
+but-other : Known → (t : RequestTable) (r n : ℕ) → waits_but t r n ≡ true → nat_eq r n ≡ false
+but-other proved t r n h = not-true (nat_eq r n) ((laws proved).history.and_right (waits (row t n)) (not (nat_eq r n)) h)
 
 but-is : (t : RequestTable) (r n : ℕ) → waits_in t n ≡ true → nat_eq r n ≡ false → waits_but t r n ≡ true
 but-is t r n h f = rw (h, f) refl
 
 -- the other rows are as they were
-moved-but : (t v : RequestTable) (r : ℕ) (ls : List ℕ) → ((n : ℕ) → nat_eq r n ≡ false → row v n ≡ row t n) → Leads (alike_in t) (waits_but t r) ls → Leads (alike_in v) (waits_but v r) ls
-moved-but t v r ls rows w =
-    leads-same (alike_in t) (alike_in v) (waits_but t r) (waits_but v r) ls (λ n. by_number n (nat_eq r n) refl) (λ p q h g. both p q (rows p (but-other t r p h)) (rows q (but-other t r q g))) w
+moved-but : Known → (t v : RequestTable) (r : ℕ) (ls : List ℕ) → ((n : ℕ) → nat_eq r n ≡ false → row v n ≡ row t n) → Leads (alike_in t) (waits_but t r) ls → Leads (alike_in v) (waits_but v r) ls
+moved-but proved t v r ls rows w =
+    leads-same proved (alike_in t) (alike_in v) (waits_but t r) (waits_but v r) ls (λ n. by_number n (nat_eq r n) refl) (λ p q h g. both p q (rows p (but-other proved t r p h)) (rows q (but-other proved t r q g))) w
   where
     by_number : (n : ℕ) (b : Bool) → nat_eq r n ≡ b → (waits (row t n) && not b) ≡ (waits (row v n) && not b)
     by_number n true e = and-none (waits (row t n)) ∙ sym (and-none (waits (row v n)))
@@ -53,25 +54,25 @@ moved-but t v r ls rows w =
     both : (p q : ℕ) → row v p ≡ row t p → row v q ≡ row t q → are_like (row t p) (row t q) ≡ are_like (row v p) (row v q)
     both p q e d = sym (ap (λ (o : Option Request). are_like o (row v q)) e ∙ ap (λ (o : Option Request). are_like (row t p) o) d)
 
-moved : (t v : RequestTable) (ls : List ℕ) → ((n : ℕ) → row v n ≡ row t n) → Leads (alike_in t) (waits_in t) ls → Leads (alike_in v) (waits_in v) ls
-moved t v ls rows w = leads-same (alike_in t) (alike_in v) (waits_in t) (waits_in v) ls (λ n. ap waits (sym (rows n)))
+moved : Known → (t v : RequestTable) (ls : List ℕ) → ((n : ℕ) → row v n ≡ row t n) → Leads (alike_in t) (waits_in t) ls → Leads (alike_in v) (waits_in v) ls
+moved proved t v ls rows w = leads-same proved (alike_in t) (alike_in v) (waits_in t) (waits_in v) ls (λ n. ap waits (sym (rows n)))
     (λ p q h g. sym (ap (λ (o : Option Request). are_like o (row v q)) (rows p) ∙ ap (λ (o : Option Request). are_like (row t p) o) (rows q))) w
 
 -- a request that is no lead
-pub leaves-none : (t : RequestTable) (r : ℕ) → list_any (nat_eq r) t.leads.items ≡ false → Leaves t t r
-leaves-none t r out = record {
-  still = λ h. record { of = λ led. uncovered (alike_in t) (waits_in t) (waits_but t r) r t.leads.items (h.of led) out (but-waits t r) (λ n. but-is t r n) };
+pub leaves-none : Known → (t : RequestTable) (r : ℕ) → list_any (nat_eq r) t.leads.items ≡ false → Leaves t t r
+leaves-none proved t r out = record {
+  still = λ h. record { of = λ led. uncovered (alike_in t) (waits_in t) (waits_but t r) r t.leads.items (h.of led) out (but-waits proved t r) (λ n. but-is t r n) };
 }
 
 -- a lead that no other of its kind follows
-pub leaves-alone : (t v : RequestTable) (r : ℕ) → FindsLike t r None → SameRows t v → DropsLead t v r → Leaves t v r
-leaves-alone t v r f s p = record {
+pub leaves-alone : Known → (t v : RequestTable) (r : ℕ) → FindsLike t r None → SameRows t v → DropsLead t v r → Leaves t v r
+leaves-alone proved t v r f s p = record {
   still = λ h. record {
     of = λ led.
         let before : Leads (alike_in t) (waits_in t) t.leads.items = h.of (sym p.still ∙ led) in
-        let rest : Leads (alike_in t) (waits_but t r) (without r t.leads.items) = dropped (alike_in t) (waits_in t) (waits_but t r) r t.leads.items before (but-waits t r)
-        (λ n c alike low. let high : r < n = above-is r n (but-other t r n c) low in nothing n (f.between n (record { high = high; waits_there = but-waits t r n c; same = alike }))) (λ n. but-is t r n) in
-        subst (λ (ls : List ℕ). Leads (alike_in v) (waits_but v r) ls) (sym p.rest) (moved-but t v r (without r t.leads.items) (λ n e. s.rows n) rest);
+        let rest : Leads (alike_in t) (waits_but t r) (without r t.leads.items) = dropped proved (alike_in t) (waits_in t) (waits_but t r) r t.leads.items before (but-waits proved t r)
+        (λ n c alike low. let high : r < n = above-is r n (but-other proved t r n c) low in nothing n (f.between n (record { high = high; waits_there = but-waits proved t r n c; same = alike }))) (λ n. but-is t r n) in
+        subst (λ (ls : List ℕ). Leads (alike_in v) (waits_but v r) ls) (sym p.rest) (moved-but proved t v r (without r t.leads.items) (λ n e. s.rows n) rest);
   };
 }
   where
@@ -79,19 +80,19 @@ leaves-alone t v r f s p = record {
     nothing n x = (let odd = x.1 in absurd (cc))
 
 -- a lead that another of its kind follows
-pub leaves-next : (t a v : RequestTable) (r q : ℕ) → list_any (nat_eq r) t.leads.items ≡ true → FindsLike t r (Some q) → SameRows t a → DropsLead t a r → SameRows a v → AddsLead a v q → Leaves t v r
-leaves-next t a v r q inside f s p u m = record {
+pub leaves-next : Known → (t a v : RequestTable) (r q : ℕ) → list_any (nat_eq r) t.leads.items ≡ true → FindsLike t r (Some q) → SameRows t a → DropsLead t a r → SameRows a v → AddsLead a v q → Leaves t v r
+leaves-next proved t a v r q inside f s p u m = record {
   still = λ h. record {
     of = λ led.
         let before : Leads (alike_in t) (waits_in t) t.leads.items = h.of (sym p.still ∙ (m.more led).0) in
         let next : IsNextLike t r q = f.right q refl in
         let above : r < q = next.high in
         let other : nat_eq r q ≡ false = other-is r q above in
-        let rest : Leads (alike_in t) (waits_but t r) (without r t.leads.items ++ q ∷ []) = replaced (alike_in t) (waits_in t) (waits_but t r) r q t.leads.items (divides t) before inside next.same (waits-self (row t q) next.waits_there)
-        (but-is t r q next.waits_there other) (λ n c e. but-waits t r n c)
-        (λ n c alike low. let high : r < n = above-is r n (but-other t r n c) low in least n (f.between n (record { high = high; waits_there = but-waits t r n c; same = alike }))) (λ n. but-is t r n) in
+        let rest : Leads (alike_in t) (waits_but t r) (without r t.leads.items ++ q ∷ []) = replaced proved (alike_in t) (waits_in t) (waits_but t r) r q t.leads.items (divides proved t) before inside next.same (waits-self proved (row t q) next.waits_there)
+        (but-is t r q next.waits_there other) (λ n c e. but-waits proved t r n c)
+        (λ n c alike low. let high : r < n = above-is r n (but-other proved t r n c) low in least n (f.between n (record { high = high; waits_there = but-waits proved t r n c; same = alike }))) (λ n. but-is t r n) in
         let items : v.leads.items ≡ without r t.leads.items ++ q ∷ [] = (m.more led).1 ∙ ap (λ (ls : List ℕ). ls ++ q ∷ []) p.rest in
-        subst (λ (ls : List ℕ). Leads (alike_in v) (waits_but v r) ls) (sym items) (moved-but t v r (without r t.leads.items ++ q ∷ []) (λ n e. u.rows n ∙ s.rows n) rest);
+        subst (λ (ls : List ℕ). Leads (alike_in v) (waits_but v r) ls) (sym items) (moved-but proved t v r (without r t.leads.items ++ q ∷ []) (λ n e. u.rows n ∙ s.rows n) rest);
   };
 }
   where
@@ -99,9 +100,9 @@ leaves-next t a v r q inside f s p u m = record {
     least n x = (let same : q ≡ x.0 = (let e = x.1 in cc) in subst (λ (z : ℕ). z ≤ n) (sym same) x.2)
 
 -- a request that does not wait
-pub joins-none : (t : RequestTable) (r : ℕ) → waits (row t r) ≡ false → Joins t t r
-joins-none t r out = record {
-  still = λ h. record { of = λ led. leads-same (alike_in t) (alike_in t) (waits_but t r) (waits_in t) t.leads.items (λ n. by_number n (nat_eq r n) refl) (λ p q x y. refl) (h.of led) };
+pub joins-none : Known → (t : RequestTable) (r : ℕ) → waits (row t r) ≡ false → Joins t t r
+joins-none proved t r out = record {
+  still = λ h. record { of = λ led. leads-same proved (alike_in t) (alike_in t) (waits_but t r) (waits_in t) t.leads.items (λ n. by_number n (nat_eq r n) refl) (λ p q x y. refl) (h.of led) };
 }
   where
     by_number : (n : ℕ) (b : Bool) → nat_eq r n ≡ b → (waits (row t n) && not b) ≡ waits (row t n)
@@ -135,45 +136,45 @@ none-passes p (y ∷ ys) x h t = by_test (p y) refl h (nat_eq x y) refl t (none-
     by_test false e h false k t rest = rest h t
 
 -- a request that waits, where a lead of its kind is no greater
-pub joins-covered : (t : RequestTable) (r l : ℕ) → Some l ≡ find (λ x. alike_in t x r) t.leads.items → l ≤ r → Joins t t r
-joins-covered t r l found low = record {
+pub joins-covered : Known → (t : RequestTable) (r l : ℕ) → Some l ≡ find (λ x. alike_in t x r) t.leads.items → l ≤ r → Joins t t r
+joins-covered proved t r l found low = record {
   still = λ h. record {
     of = λ led. (let its = found-passes (λ x. alike_in t x r) t.leads.items l (sym found) in
-        covered-too (alike_in t) (waits_but t r) (waits_in t) r l t.leads.items (h.of led) its.1 its.0 low (λ n. but-is t r n) (but-waits t r));
+        covered-too (alike_in t) (waits_but t r) (waits_in t) r l t.leads.items (h.of led) its.1 its.0 low (λ n. but-is t r n) (but-waits proved t r));
   };
 }
 
 -- where the lead of its kind is greater
-pub joins-over : (t a v : RequestTable) (r l : ℕ) → waits (row t r) ≡ true → Some l ≡ find (λ x. alike_in t x r) t.leads.items → r < l → SameRows t a → DropsLead t a l → SameRows a v → AddsLead a v r → Joins t v r
-joins-over t a v r l here found high s p u m = record {
+pub joins-over : Known → (t a v : RequestTable) (r l : ℕ) → waits (row t r) ≡ true → Some l ≡ find (λ x. alike_in t x r) t.leads.items → r < l → SameRows t a → DropsLead t a l → SameRows a v → AddsLead a v r → Joins t v r
+joins-over proved t a v r l here found high s p u m = record {
   still = λ h. record {
     of = λ led.
         let its = found-passes (λ x. alike_in t x r) t.leads.items l (sym found) in
         let before : Leads (alike_in t) (waits_but t r) t.leads.items = h.of (sym p.still ∙ (m.more led).0) in
-        let rest : Leads (alike_in t) (waits_in t) (without l t.leads.items ++ r ∷ []) = replaced (alike_in t) (waits_but t r) (waits_in t) l r t.leads.items (divides t) before its.1 its.0 (waits-self (row t r) here) here
-        (λ n. but-is t r n) (λ n c alike low. omega arith) (λ n c e. but-waits t r n c) in
+        let rest : Leads (alike_in t) (waits_in t) (without l t.leads.items ++ r ∷ []) = replaced proved (alike_in t) (waits_but t r) (waits_in t) l r t.leads.items (divides proved t) before its.1 its.0 (waits-self proved (row t r) here) here
+        (λ n. but-is t r n) (λ n c alike low. omega arith) (λ n c e. but-waits proved t r n c) in
         let items : v.leads.items ≡ without l t.leads.items ++ r ∷ [] = (m.more led).1 ∙ ap (λ (ls : List ℕ). ls ++ r ∷ []) p.rest in
-        subst (λ (ls : List ℕ). Leads (alike_in v) (waits_in v) ls) (sym items) (moved t v (without l t.leads.items ++ r ∷ []) (λ n. u.rows n ∙ s.rows n) rest);
+        subst (λ (ls : List ℕ). Leads (alike_in v) (waits_in v) ls) (sym items) (moved proved t v (without l t.leads.items ++ r ∷ []) (λ n. u.rows n ∙ s.rows n) rest);
   };
 }
 
 -- where no lead is of its kind
-pub joins-new : (t v : RequestTable) (r : ℕ) → waits (row t r) ≡ true → None ≡ find (λ x. alike_in t x r) t.leads.items → SameRows t v → AddsLead t v r → Joins t v r
-joins-new t v r here found s m = record {
+pub joins-new : Known → (t v : RequestTable) (r : ℕ) → waits (row t r) ≡ true → None ≡ find (λ x. alike_in t x r) t.leads.items → SameRows t v → AddsLead t v r → Joins t v r
+joins-new proved t v r here found s m = record {
   still = λ h. record {
     of = λ led.
         let before : Leads (alike_in t) (waits_but t r) t.leads.items = h.of (m.more led).0 in
-        let rest : Leads (alike_in t) (waits_in t) (t.leads.items ++ r ∷ []) = added (alike_in t) (waits_but t r) (waits_in t) r t.leads.items before (λ l there. none-passes (λ x. alike_in t x r) t.leads.items l (sym found) there)
-        (waits-self (row t r) here) here (λ n. but-is t r n) (but-waits t r) in
-        subst (λ (ls : List ℕ). Leads (alike_in v) (waits_in v) ls) (sym (m.more led).1) (moved t v (t.leads.items ++ r ∷ []) s.rows rest);
+        let rest : Leads (alike_in t) (waits_in t) (t.leads.items ++ r ∷ []) = added proved (alike_in t) (waits_but t r) (waits_in t) r t.leads.items before (λ l there. none-passes (λ x. alike_in t x r) t.leads.items l (sym found) there)
+        (waits-self proved (row t r) here) here (λ n. but-is t r n) (but-waits proved t r) in
+        subst (λ (ls : List ℕ). Leads (alike_in v) (waits_in v) ls) (sym (m.more led).1) (moved proved t v (t.leads.items ++ r ∷ []) s.rows rest);
   };
 }
 
 -- a row changes between leaving and joining
-pub keeps-leads : (t a b v : RequestTable) (r : ℕ) → Leaves t a r → ((n : ℕ) → nat_eq r n ≡ false → row b n ≡ row a n) → b.leads ≡ a.leads → b.led ≡ a.led → Joins b v r → KeepsLeads t v
-keeps-leads t a b v r p rows leads led q = record {
+pub keeps-leads : Known → (t a b v : RequestTable) (r : ℕ) → Leaves t a r → ((n : ℕ) → nat_eq r n ≡ false → row b n ≡ row a n) → b.leads ≡ a.leads → b.led ≡ a.led → Joins b v r → KeepsLeads t v
+keeps-leads proved t a b v r p rows leads led q = record {
   still = λ h. q.still (record {
-    of = λ now. subst (λ (ls : List ℕ). Leads (alike_in b) (waits_but b r) ls) (sym (ap (λ x. x.items) leads)) (moved-but a b r a.leads.items rows ((p.still h).of (sym led ∙ now)));
+    of = λ now. subst (λ (ls : List ℕ). Leads (alike_in b) (waits_but b r) ls) (sym (ap (λ x. x.items) leads)) (moved-but proved a b r a.leads.items rows ((p.still h).of (sym led ∙ now)));
   });
 }
 
@@ -228,8 +229,8 @@ settles-between t a b v r o s p u = record {
 }
 
 -- what the leads are of a history
-pub lead-kinds : (t : RequestTable) (H : List Entry) → Stands t H → t.led ≡ true → LeadKinds H t.leads.items
-lead-kinds t H st led = leads-same (alike_in t) (is_alike H) (waits_in t) (λ r. is_waiting (place H r)) t.leads.items (λ n. by_row n (row t n) refl) (λ q r h g. by_rows q r (row t q) refl h (row t r) refl g) (st.leads_rows.of led)
+pub lead-kinds : Known → (t : RequestTable) (H : List Entry) → Stands t H → t.led ≡ true → LeadKinds H t.leads.items
+lead-kinds proved t H st led = leads-same proved (alike_in t) (is_alike H) (waits_in t) (λ r. is_waiting (place H r)) t.leads.items (λ n. by_row n (row t n) refl) (λ q r h g. by_rows q r (row t q) refl h (row t r) refl g) (st.leads_rows.of led)
   where
     by_row : (n : ℕ) (o : Option Request) → row t n ≡ o → waits o ≡ is_waiting (place H n)
     by_row n None e = sym (gone_waits (place H n) (st.missing n e))
@@ -238,4 +239,4 @@ lead-kinds t H st led = leads-same (alike_in t) (is_alike H) (waits_in t) (λ r.
     by_rows : (q r : ℕ) (o : Option Request) → row t q ≡ o → waits o ≡ true → (p : Option Request) → row t r ≡ p → waits p ≡ true → are_like o p ≡ is_alike H q r
     by_rows q r None e h p d g = absurd (cc)
     by_rows q r (Some a) e h None d g = absurd (cc)
-    by_rows q r (Some a) e h (Some b) d g = like-rows a b H q r (st.found q a e) (st.found r b d) (ap is_waiting (sym (st.found q a e).stands_at) ∙ h) (ap is_waiting (sym (st.found r b d).stands_at) ∙ g)
+    by_rows q r (Some a) e h (Some b) d g = like-rows proved a b H q r (st.found q a e) (st.found r b d) (ap is_waiting (sym (st.found q a e).stands_at) ∙ h) (ap is_waiting (sym (st.found r b d).stands_at) ∙ g)

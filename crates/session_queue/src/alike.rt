@@ -1,4 +1,4 @@
-//! Which requests are of one kind: the same slots fit them.
+//! Which requests are of one kind: the same slots fit them. Calls of `queue_laws` are for the proofs alone.
 ghost use Rattle.std.specs.Prelude.{◌≡◌, ◌&&◌, ℕ, List, true, nat_eq};
 ghost use Rattle.std.specs.Cmp.Lexicographic.{pointwise};
 ghost use Rattle.grid_types.specs.declared.entry.Entry.{Entry};
@@ -7,6 +7,7 @@ ghost use Rattle.grid_types.specs.Requests.{place, is_waiting};
 ghost use Rattle.dispatch_laws.specs.Kinds.{cap_eq, choices_eq, is_alike};
 ghost use Rattle.session_queue.specs.Table.{RowTells, is_like, same_tried};
 
+use crate::laws::queue_laws;
 use crate::request::Request;
 use grid_types::{Cap, CapValue, Caps};
 
@@ -75,5 +76,6 @@ pub(crate) fn is_like(a: &Request, b: &Request) -> bool
 pub fn is_alike(a: &Request, b: &Request) -> bool
     ensures { (H : List Entry) (q r : ℕ) → RowTells a.now H q → RowTells b.now H r → is_waiting (place H q) ≡ true → is_waiting (place H r) ≡ true → result ≡ is_alike H q r }
 {
+    queue_laws();
     is_like(a, b)
 }

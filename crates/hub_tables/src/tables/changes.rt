@@ -3,6 +3,7 @@ ghost use Rattle.std.specs.Prelude.{◌≡◌, ◌≤◌, ◌<◌, ◌-◌, ◌^
 ghost use Rattle.std.specs.Option.{option_copied};
 ghost use Rattle.grid_types.specs.declared.entry.Change.TheVariants as change;
 ghost use Rattle.grid_types.specs.declared.entry.Outcome.{Outcome as Settling};
+ghost use Rattle.grid_types.specs.declared.limits.TheConstants.{MOST_SLOTS};
 ghost use Rattle.grid_types.specs.Capabilities.{request_bytes};
 ghost use Rattle.grid_types.specs.Nodes.{stereotypes, address_of, is_suspect};
 ghost use Rattle.grid_types.specs.Bindings.{bound_slot};
@@ -23,7 +24,7 @@ impl HubTables {
         registration: &Registration,
         at: Moment,
     ) -> Result<(), NoMemory>
-        requires sized { length (stereotypes registration.now.groups) ≤ 64 }
+        requires sized { length (stereotypes registration.now.groups) ≤ MOST_SLOTS }
         requires numbers { node_number self.old < 2 ^ 32 - 1 }
         ensures noted { OnOk result ((caller : ℕ) → Notes self.old self.new caller (change.Registered (node_number self.old) registration.now at)) }
         ensures refused { OnErr result (Keeps self.old self.new) }

@@ -1,4 +1,4 @@
-//! The rows by their places, for a walk over all nodes.
+//! The rows by their places, for a walk over all nodes. Calls of `history_laws` are for the proofs alone.
 ghost use Rattle.std.specs.Prelude.{◌≡◌, Some, IfSome, option_map, slice_get};
 ghost use Rattle.grid_types.specs.Nodes.{registration_of};
 ghost use Rattle.grid_types.specs.Tables.{Tells};
@@ -6,7 +6,7 @@ ghost use Rattle.node_registry.specs.Table.{Stands, known, last_turn};
 ghost use Rattle.node_registry.specs.Rows.{OfNode, RowTells};
 
 use super::{NodeRow, NodeTable};
-use grid_types::{NodeNo, Registration};
+use grid_types::{NodeNo, Registration, history_laws};
 
 impl NodeTable {
     /// The node at this place, by ascending number from 0, with its row. It takes no memory.
@@ -15,6 +15,7 @@ impl NodeTable {
         ensures turn { IfSome result (λ e. e.1.now.turn ≡ last_turn self.now e.0) }
         ensures row { Tells Stands self.now (λ H. IfSome result (λ e. RowTells H e.0 e.1.now)) }
     {
+        history_laws();
         let (node, row) = self.nodes.get_index(index)?;
         Some((*node, row))
     }

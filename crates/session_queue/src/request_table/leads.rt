@@ -1,4 +1,4 @@
-//! The leads: the first waiting request of each kind.
+//! The leads: the first waiting request of each kind. Calls of `queue_laws` are for the proofs alone.
 ghost use Rattle.std.specs.Prelude.{◌≡◌, ◌++◌, ◌∷◌, ◌&&◌, [], Bool, ℕ, true, not, nat_eq, nat_lt, Some, None, option_map, option_copied, filter, find};
 ghost use Rattle.std.specs.List.{list_any};
 ghost use Rattle.std.specs.Ordering.{nat_cmp};
@@ -10,6 +10,7 @@ ghost use Rattle.grid_types.specs.Tables.{Tells};
 ghost use Rattle.session_queue.specs.Table.{AddsLead, DropsLead, FindsInTime, FindsLike, Stands, Joins, KeepsLeads, Leaves, SameRows, are_like, is_like, place_of, row, waits};
 
 use crate::alike::is_like;
+use crate::laws::queue_laws;
 use crate::request::Request;
 use crate::request_table::RequestTable;
 use grid_types::{Moment, ReqNo};
@@ -62,6 +63,7 @@ impl RequestTable {
     pub fn in_time_of(&self, lead: ReqNo, at: Moment) -> Option<ReqNo>
         ensures { Tells Stands self.now (λ H. is_waiting (place H lead) ≡ true → FindsInTime H lead at.0 result) }
     {
+        queue_laws();
         match self.find(lead) {
             Some(asked) => first_in_time(&self.requests, lead, asked, at),
             None => None,
@@ -73,6 +75,7 @@ impl RequestTable {
         ensures rows { SameRows self.old self.new }
         ensures leads { Leaves self.old self.new request }
     {
+        queue_laws();
         if self.is_lead(request) {
             self.pass_on(request);
         }
@@ -83,6 +86,7 @@ impl RequestTable {
         ensures rows { SameRows self.old self.new }
         ensures leads { Joins self.old self.new request }
     {
+        queue_laws();
         if self.is_waiting(request) {
             self.take_in(request);
         }
@@ -103,6 +107,7 @@ impl RequestTable {
         ensures rows { SameRows self.old self.new }
         ensures leads { list_any (nat_eq request) self.old.leads.items ≡ true → Leaves self.old self.new request }
     {
+        queue_laws();
         let next = self.next_like(request);
         self.drop_lead(request);
         if let Some(heir) = next {
@@ -114,6 +119,7 @@ impl RequestTable {
         ensures rows { SameRows self.old self.new }
         ensures leads { waits (row self.old request) ≡ true → Joins self.old self.new request }
     {
+        queue_laws();
         match self.lead_of(request) {
             Some(lead) => {
                 if request < lead {
@@ -144,6 +150,7 @@ impl RequestTable {
     fn next_like(&self, request: ReqNo) -> Option<ReqNo>
         ensures { FindsLike self.now request result }
     {
+        queue_laws();
         match self.find(request) {
             Some(asked) => first_like(&self.requests, request, asked),
             None => None,

@@ -4,7 +4,11 @@ use Rattle.node_registry.proofs.Queries.{row-tells, listed-there}
 use Rattle.node_registry.proofs.node_table.NodeTable.beat.Goals as goal
 
 pub returns-in_err-get : goal.returns-in_err-get
-returns-in_err-get c = record { of = λ c' H s l on. listed-there c' H c.args.self.now c.args.node s l c.in_err-get.ensures.value on }
+returns-in_err-get c =
+    let proved = c.history_laws.ensures in
+    record { of = λ c' H s l on. listed-there proved c' H c.args.self.now c.args.node s l c.in_err-get.ensures.value on }
 
 pub returns : goal.returns
-returns c = record { of = λ c' H s l on. ap Some (row-tells c' H c.args.self.now c.args.node _ s l c.in_ok-get.ensures.value).beat }
+returns c =
+    let proved = c.history_laws.ensures in
+    record { of = λ c' H s l on. ap Some (row-tells proved c' H c.args.self.now c.args.node _ s l c.in_ok-get.ensures.value).beat }

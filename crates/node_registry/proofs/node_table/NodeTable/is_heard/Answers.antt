@@ -3,4 +3,6 @@ use Rattle.node_registry.proofs.QuietLemmas.{none-unheard}
 use Rattle.node_registry.proofs.node_table.NodeTable.is_heard.Goals as goal
 
 pub returns-clause-sure : goal.returns-clause-sure
-returns-clause-sure c = record { of = λ c' H s l yes. none-unheard c' H c.args.self.now c.args.at.0 c.args.silent_ms s l (search (rules, tests)) }
+returns-clause-sure c =
+    let proved = c.history_laws.ensures in
+    record { of = λ c' H s l yes. none-unheard proved c' H c.args.self.now c.args.at.0 c.args.silent_ms s l (search (rules, tests)) }

@@ -12,19 +12,21 @@ use Rattle.node_registry.proofs.node_table.NodeTable.reserved.Goals as goal
 use Rattle.node_registry.proofs.node_table.NodeTable.reserved.Goals.{in-Some-get_mut, in_default-get_mut}
 
 pub returns-clause-stands : goal.returns-clause-stands
-returns-clause-stands c = λ k. record {
-  after = λ c' H s l.
-      elim c.match-get_mut.branch [
-        | in-Some-get_mut w ↦ (
-            let row = w.in-Some-get_mut.chosen.now in
-            let there = sym w.in-Some-get_mut.ensures.value in
-            let written = c.get_mut.follows.holds (with_turn c.in-Some.turn row) in
-            let Stood : NodeTable → Type 0 = λ z. Stands (record z { newest_turn = c.in-Some.turn }) (entry k (change.Reserved c.args._request c.args.slot c.args._choice c.args._at) ∷ H) in
-            subst Stood (sym w.self-is)
-            (stands-Reserved c' H k c.args._request c.args.slot c.args._choice c.args._at row c.args.self.now _ s l there
-            (rows-some c.args.slot.node (with_turn c.in-Some.turn) (get nat_eq c.args.self.now.nodes) _ row there (written.3 (rw there (search rules))).0)
-            written.1 c.in-Some.ensures.1 written.4 (same-bounds _ _ refl refl refl))
-            )
-        | in_default-get_mut w ↦ chosen-there c' H k c.args._request c.args.slot c.args._choice c.args._at c.args.self.now s l w.in_default-get_mut.ensures.value
-      ];
-}
+returns-clause-stands c =
+    let proved = c.history_laws.ensures in
+    λ k. record {
+      after = λ c' H s l.
+          elim c.match-get_mut.branch [
+            | in-Some-get_mut w ↦ (
+                let row = w.in-Some-get_mut.chosen.now in
+                let there = sym w.in-Some-get_mut.ensures.value in
+                let written = c.get_mut.follows.holds (with_turn c.in-Some.turn row) in
+                let Stood : NodeTable → Type 0 = λ z. Stands (record z { newest_turn = c.in-Some.turn }) (entry k (change.Reserved c.args._request c.args.slot c.args._choice c.args._at) ∷ H) in
+                subst Stood (sym w.self-is)
+                (stands-Reserved proved c' H k c.args._request c.args.slot c.args._choice c.args._at row c.args.self.now _ s l there
+                (rows-some c.args.slot.node (with_turn c.in-Some.turn) (get nat_eq c.args.self.now.nodes) _ row there (written.3 (rw there (search rules))).0)
+                written.1 c.in-Some.ensures.1 written.4 (same-bounds _ _ refl refl refl))
+                )
+            | in_default-get_mut w ↦ chosen-there proved c' H k c.args._request c.args.slot c.args._choice c.args._at c.args.self.now s l w.in_default-get_mut.ensures.value
+          ];
+    }

@@ -9,19 +9,23 @@ pub returns-in_err-node : goal.returns-in_err-node
 returns-in_err-node c = record { of = λ d H s l. c.from_residual.ensures ∙ sign-past H (is_registered H) (slice_get (known c.args.self.now) c.args.index) (known-past c.args.self.now c.args.index (search (rules, tests))) }
 
 pub returns-then-is_registered : goal.returns-then-is_registered
-returns-then-is_registered c = record {
-  of = λ d H s l.
-      let tells = place-tells d H c.args.self.now c.args.index c.in_ok-node.node.now c.in_ok-node.row.now s l (search (rules, tests)) in
-      sign-told H (is_registered H) (slice_get (known c.args.self.now) c.args.index) c.in_ok-node.node.now c.in_ok-node.row.now
-      (known-there c.args.self.now c.args.index c.in_ok-node.node.now c.in_ok-node.row.now (search (rules, tests)))
-      (sym (row-registered H c.in_ok-node.node.now c.in_ok-node.row.now tells) ∙ sym c.is_registered.ensures ∙ c.if-is_registered.true) tells;
-}
+returns-then-is_registered c =
+    let proved = c.history_laws.ensures in
+    record {
+      of = λ d H s l.
+          let tells = place-tells proved d H c.args.self.now c.args.index c.in_ok-node.node.now c.in_ok-node.row.now s l (search (rules, tests)) in
+          sign-told H (is_registered H) (slice_get (known c.args.self.now) c.args.index) c.in_ok-node.node.now c.in_ok-node.row.now
+          (known-there c.args.self.now c.args.index c.in_ok-node.node.now c.in_ok-node.row.now (search (rules, tests)))
+          (sym (row-registered H c.in_ok-node.node.now c.in_ok-node.row.now tells) ∙ sym c.is_registered.ensures ∙ c.if-is_registered.true) tells;
+    }
 
 pub returns-else-is_registered : goal.returns-else-is_registered
-returns-else-is_registered c = record {
-  of = λ d H s l.
-      let tells = place-tells d H c.args.self.now c.args.index c.in_ok-node.node.now c.in_ok-node.row.now s l (search (rules, tests)) in
-      sign-untold H (is_registered H) (slice_get (known c.args.self.now) c.args.index) c.in_ok-node.node.now
-      (known-there c.args.self.now c.args.index c.in_ok-node.node.now c.in_ok-node.row.now (search (rules, tests)))
-      (sym (row-registered H c.in_ok-node.node.now c.in_ok-node.row.now tells) ∙ sym c.is_registered.ensures ∙ c.if-is_registered.false);
-}
+returns-else-is_registered c =
+    let proved = c.history_laws.ensures in
+    record {
+      of = λ d H s l.
+          let tells = place-tells proved d H c.args.self.now c.args.index c.in_ok-node.node.now c.in_ok-node.row.now s l (search (rules, tests)) in
+          sign-untold H (is_registered H) (slice_get (known c.args.self.now) c.args.index) c.in_ok-node.node.now
+          (known-there c.args.self.now c.args.index c.in_ok-node.node.now c.in_ok-node.row.now (search (rules, tests)))
+          (sym (row-registered H c.in_ok-node.node.now c.in_ok-node.row.now tells) ∙ sym c.is_registered.ensures ∙ c.if-is_registered.false);
+    }

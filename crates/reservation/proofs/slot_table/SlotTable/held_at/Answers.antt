@@ -3,7 +3,11 @@ use Rattle.reservation.proofs.RowLemmas.{held-is, held-none}
 use Rattle.reservation.proofs.slot_table.SlotTable.held_at.Goals as goal
 
 pub returns-in-Some : goal.returns-in-Some
-returns-in-Some c = record { of = λ g H st l. c.held.ensures ∙ held-is c.args.self.now c.args.node c.in-Some.slots.now (sym c.in-Some.ensures) g H st l }
+returns-in-Some c =
+    let proved = c.history_laws.ensures in
+    record { of = λ g H st l. c.held.ensures ∙ held-is proved c.args.self.now c.args.node c.in-Some.slots.now (sym c.in-Some.ensures) g H st l }
 
 pub returns-in-None : goal.returns-in-None
-returns-in-None c = record { of = λ g H st l. held-none c.args.self.now c.args.node (sym c.in-None.ensures) g H st l }
+returns-in-None c =
+    let proved = c.history_laws.ensures in
+    record { of = λ g H st l. held-none proved c.args.self.now c.args.node (sym c.in-None.ensures) g H st l }

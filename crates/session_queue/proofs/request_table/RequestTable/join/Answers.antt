@@ -6,4 +6,6 @@ pub returns-then-is_waiting-clause-leads : goal.returns-then-is_waiting-clause-l
 returns-then-is_waiting-clause-leads c = c.take_in.ensures.leads (sym c.is_waiting.ensures ∙ c.if-is_waiting.true)
 
 pub returns-else-is_waiting-clause-leads : goal.returns-else-is_waiting-clause-leads
-returns-else-is_waiting-clause-leads c = joins-none _ c.args.request (sym c.is_waiting.ensures ∙ c.if-is_waiting.false)
+returns-else-is_waiting-clause-leads c =
+    let proved = c.queue_laws.ensures in
+    joins-none proved _ c.args.request (sym c.is_waiting.ensures ∙ c.if-is_waiting.false)

@@ -9,6 +9,8 @@ pub returns-clause-value : goal.returns-clause-value
 returns-clause-value c = c.remove_row-removed.ensures.value ∙ c.leave.ensures.rows.rows c.args.request
 
 pub returns-clause-leads : goal.returns-clause-leads
-returns-clause-leads c = record {
-  still = λ h. c.renew.ensures.leads.still ((keeps-leads _ _ _ _ c.args.request c.leave.ensures.leads (others-set _ _ c.args.request _ c.remove_row-removed.ensures.rows) c.remove_row-removed.ensures.leads c.remove_row-removed.ensures.led c.join.ensures.leads).still h);
-}
+returns-clause-leads c =
+    let proved = c.queue_laws.ensures in
+    record {
+      still = λ h. c.renew.ensures.leads.still ((keeps-leads proved _ _ _ _ c.args.request c.leave.ensures.leads (others-set _ _ c.args.request _ c.remove_row-removed.ensures.rows) c.remove_row-removed.ensures.leads c.remove_row-removed.ensures.led c.join.ensures.leads).still h);
+    }
