@@ -15,19 +15,19 @@ use Rattle.grid_types.specs.Bindings.{Running, bound_of}
 use Rattle.grid_types.specs.Tables.{entry}
 use Rattle.grid_types.specs.Tokens.{Reservation, Closing, closing_of, reservation_of}
 use Rattle.grid_types.specs.Calls.{Call, Reply}
-use Rattle.grid_types.specs.HubAnswers.{moment, drain_after_bind, idle_bindings}
+use Rattle.grid_types.specs.HubAnswers.{moment, drain_after_bind, idle_bindings, refused_reply}
 use Rattle.grid_types.specs.LookupMap.{Item, put, removal, removal_of, published, changes}
-use Rattle.grid_types.proofs.MapLemmas.{running-live}
 use Rattle.hub_core.specs.declared.hub.HubCore.{HubCore}
 use Rattle.hub_core.specs.declared.hub.sessions.Seat.{Seat}
 use Rattle.hub_core.specs.declared.hub.sessions.Idle.{Idle}
 use Rattle.hub_core.specs.Answers.{IsExact}
 use Rattle.hub_core.specs.Serves.{MayCall}
-use Rattle.hub_core.specs.Starts.{refusal_of, refused_reply}
+use Rattle.hub_core.specs.Starts.{refusal_of}
 use Rattle.hub_core.specs.Seats.{SeatTells, IdleTells, IsIdle, seated}
 use Rattle.hub_core.specs.CoreStands.{Stands, CoreTells, is_known}
 use Rattle.hub_core.specs.Ahead.{Publishes, BindsThere, RefusesThere, is_bound, put_of}
 use Rattle.grid_types.specs.Requests.{place}
+use Rattle.grid_types.specs.HistoryLaws.{Known, laws}
 use Rattle.hub_core.proofs.NoteLemmas.{IsRaised}
 use Rattle.hub_core.proofs.SilentLemmas.{AllSilent, silent-after}
 use Rattle.hub_core.proofs.BindLemmas.{bind-refused, bind-kept}
@@ -72,10 +72,10 @@ refuses-there c H k t x caps at w some =
       stays = by_history c H k (Call.bind t x caps) at _ _ [] exact refl;
     }
 
-module _ (core : HubCore) (t : Reservation) (x : List ℕ) (caps : List Cap) (at : ℕ) (found : Option FailWhy)
+module _ (proved : Known) (core : HubCore) (t : Reservation) (x : List ℕ) (caps : List Cap) (at : ℕ) (found : Option FailWhy)
     (tells : CoreTells core (λ H. t ≡ reservation_of H t.request t.slot → is_known (place H t.request) ≡ true → found ≡ refusal_of H t x caps)) where
   refusal-is : (H : List Entry) (k : ℕ) → Stands core H → MayCall H k (Call.bind t x caps) → refusal_of H t x caps ≡ found
-  refusal-is H k s may = sym (tells.of H s may.is_true (reservation-known core.config H k t.request t.slot s.is_legal may.is_good))
+  refusal-is H k s may = sym (tells.of H s may.is_true (reservation-known proved core.config H k t.request t.slot s.is_legal may.is_good))
 
   pub core-binds : found ≡ None → CoreTells core (λ H. (k : ℕ) → MayCall H k (Call.bind t x caps) → BindsThere core.config H k t x caps at)
   core-binds none = record {
@@ -110,10 +110,10 @@ removal-is H b r e = ap (λ (o : Option Running). published (changes H) (removal
 pub core-not_ending : (core : HubCore) (x : List ℕ) (b : ℕ) → CoreTells core (λ H. SeatTells H x b None) → CoreTells core (λ H. (k at : ℕ) → Publishes core.config H k (Call.end x b) at [])
 core-not_ending core x b tells = record { of = λ H s k at. by_history core.config H k (Call.end x b) at _ H [] (end-none core.config H k at x b (tells.of H s)) refl }
 
-pub core-ending : (core : HubCore) (x : List ℕ) (b : ℕ) (seat : Seat) → CoreTells core (λ H. SeatTells H x b (Some seat)) → CoreTells core (λ H. (k at : ℕ) → Publishes core.config H k (Call.end x b) at (removal x ∷ []))
-core-ending core x b seat tells = record {
-  of = λ H s k at. by_history core.config H k (Call.end x b) at _ _ (removal x ∷ []) (end-ended core.config H k at x b seat s.is_legal (tells.of H s))
-      (removal-is H b (seated x b seat) (running-live core.config H x (seated x b seat) s.is_legal (tells.of H s)).0.bound);
+pub core-ending : Known → (core : HubCore) (x : List ℕ) (b : ℕ) (seat : Seat) → CoreTells core (λ H. SeatTells H x b (Some seat)) → CoreTells core (λ H. (k at : ℕ) → Publishes core.config H k (Call.end x b) at (removal x ∷ []))
+core-ending proved core x b seat tells = record {
+  of = λ H s k at. by_history core.config H k (Call.end x b) at _ _ (removal x ∷ []) (end-ended proved core.config H k at x b seat s.is_legal (tells.of H s))
+      (removal-is H b (seated x b seat) ((laws proved).running-live core.config H x (seated x b seat) s.is_legal (tells.of H s)).0.bound);
 }
 
 pub core-not_expiring : (core : HubCore) (at : ℕ) (now : Moment) → CoreTells core (λ H. IdleTells core.config H now.0 None) → IsRaised core at now → CoreTells core (λ H. (k : ℕ) → Publishes core.config H k Call.expire at [])
@@ -122,11 +122,11 @@ core-not_expiring core at now tells e = record {
       (expire-none core.config H k at (subst (λ (m : ℕ). least nat_lt (idle_bindings core.config H m) ≡ None) (e.of core.config H s.tables_stand s.is_legal) (tells.of H s))) refl;
 }
 
-pub core-expiring : (core : HubCore) (at : ℕ) (now : Moment) (idle : Idle) → CoreTells core (λ H. IdleTells core.config H now.0 (Some idle)) → IsRaised core at now →
+pub core-expiring : Known → (core : HubCore) (at : ℕ) (now : Moment) (idle : Idle) → CoreTells core (λ H. IdleTells core.config H now.0 (Some idle)) → IsRaised core at now →
     CoreTells core (λ H. (k : ℕ) → Publishes core.config H k Call.expire at (removal idle.session ∷ []))
-core-expiring core at now idle tells e = record {
+core-expiring proved core at now idle tells e = record {
   of = λ H s k.
       let here : IsIdle core.config H (max at (clock H)) idle = subst (λ (m : ℕ). IsIdle core.config H m idle) (e.of core.config H s.tables_stand s.is_legal) (tells.of H s) in
-      by_history core.config H k Call.expire at _ _ (removal idle.session ∷ []) (expire-expired core.config H k at idle s.is_legal here)
-      (removal-is H idle.binding (seated idle.session idle.binding idle.seat) (running-live core.config H idle.session (seated idle.session idle.binding idle.seat) s.is_legal here.runs).0.bound);
+      by_history core.config H k Call.expire at _ _ (removal idle.session ∷ []) (expire-expired proved core.config H k at idle s.is_legal here)
+      (removal-is H idle.binding (seated idle.session idle.binding idle.seat) ((laws proved).running-live core.config H idle.session (seated idle.session idle.binding idle.seat) s.is_legal here.runs).0.bound);
 }

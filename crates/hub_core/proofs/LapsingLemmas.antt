@@ -20,6 +20,7 @@ use Rattle.grid_types.specs.Tables.{entry}
 use Rattle.grid_types.specs.Calls.{Call}
 use Rattle.grid_types.specs.HubAnswers.{hub, after_call, moment, lapsed_nodes, lapses, suspicions, time_outs, removals}
 use Rattle.grid_types.specs.LookupMap.{Item, removal, session_in, sessions_on, published, changes}
+use Rattle.grid_types.specs.HistoryLaws.{Known}
 use Rattle.reservation.specs.declared.slot_use.SlotUse.{SlotUse}
 use Rattle.reservation.specs.Table.{holder_of}
 use Rattle.hub_core.specs.declared.hub.HubCore.{HubCore}
@@ -75,8 +76,8 @@ lapsed-changes H k at (n ∷ ns) s =
     ∙ (sym (published-append (changes H) (removals_of (sessions_on H n)) (removals_of (all_on H ns)))
     ∙ ap (published (changes H)) (sym (removals-append (sessions_on H n) (all_on H ns)))))
 
-lapsed-ascend : (c : HubConfig) (H : List Entry) (m : ℕ) → legal c H ≡ true → IsStrictlySortedBy nat_cmp (lapsed_nodes c H m)
-lapsed-ascend c H m l = IsStrictlySortedBy-filter nat_cmp _ (nodes H) (nodes-ascend c H l)
+lapsed-ascend : Known → (c : HubConfig) (H : List Entry) (m : ℕ) → legal c H ≡ true → IsStrictlySortedBy nat_cmp (lapsed_nodes c H m)
+lapsed-ascend proved c H m l = IsStrictlySortedBy-filter nat_cmp _ (nodes H) (nodes-ascend proved c H l)
 
 swept-after : (c : HubConfig) (H : List Entry) (k at : ℕ) →
     after_call c H k Call.sweep at ≡ after H k
@@ -89,15 +90,15 @@ swept-after c H k at = refl
 silent-behind : (H : List Entry) (k : ℕ) (xs ys : List Change) → AllSilent ys → changes (after H k (xs ++ ys)) ≡ changes (after H k xs)
 silent-behind H k xs ys s = ap changes (after-append H k xs ys) ∙ silent-after (after H k xs) k ys s
 
-pub sweep-publishes : (c : HubConfig) (H : List Entry) (k at : ℕ) → legal c H ≡ true → Publishes c H k Call.sweep at (removals_of (all_on H (lapsed_nodes c H (max at (clock H)))))
-sweep-publishes c H k at l =
+pub sweep-publishes : Known → (c : HubConfig) (H : List Entry) (k at : ℕ) → legal c H ≡ true → Publishes c H k Call.sweep at (removals_of (all_on H (lapsed_nodes c H (max at (clock H)))))
+sweep-publishes proved c H k at l =
     let m : ℕ = max at (clock H) in
     let later : List Entry = after H k (lapses c H m) in
     ap changes (swept-after c H k at)
     ∙ (silent-behind H k ((lapses c H m ++ suspicions c later m) ++ time_outs H m) (removals later m) (silent-map _ _ (λ n L. refl))
     ∙ (silent-behind H k (lapses c H m ++ suspicions c later m) (time_outs H m) (silent-map _ _ (λ r L. refl))
     ∙ (silent-behind H k (lapses c H m) (suspicions c later m) (silent-map _ _ (λ n L. refl))
-    ∙ lapsed-changes H k (moment m) (lapsed_nodes c H m) (lapsed-ascend c H m l))))
+    ∙ lapsed-changes H k (moment m) (lapsed_nodes c H m) (lapsed-ascend proved c H m l))))
 
 fused : {X : Type 0} (f : X → Holder) (xs : List X) → filter_map (λ x. session_in (f x)) xs ≡ filter_map session_in (map f xs)
 fused f [] = refl
@@ -137,9 +138,9 @@ found-in p q (x ∷ xs) n h = by_test (q x) refl h (found-in p q xs n)
 pub lapsed-registered : (c : HubConfig) (H : List Entry) (m from n : ℕ) → find (nat_le from) (lapsed_nodes c H m) ≡ Some n → is_registered H n ≡ true
 lapsed-registered c H m from n h = passed _ _ (found-in (nat_le from) _ (nodes H) n h)
 
-pub comes-next : (c : HubConfig) (m from n : ℕ) (found more : List (List ℕ)) (H : List Entry) → legal c H ≡ true → find (nat_le from) (lapsed_nodes c H m) ≡ Some n → Comes c m from found H → more ≡ found ++ sessions_on H n → Comes c m (n + 1) more H
-comes-next c m from n found more H l h way e =
-    let front = find-front from n (lapsed_nodes c H m) (lapsed-ascend c H m l) h in
+pub comes-next : Known → (c : HubConfig) (m from n : ℕ) (found more : List (List ℕ)) (H : List Entry) → legal c H ≡ true → find (nat_le from) (lapsed_nodes c H m) ≡ Some n → Comes c m from found H → more ≡ found ++ sessions_on H n → Comes c m (n + 1) more H
+comes-next proved c m from n found more H l h way e =
+    let front = find-front from n (lapsed_nodes c H m) (lapsed-ascend proved c H m l) h in
     ap (λ (z : List (List ℕ)). z ++ all_on H (filter (nat_le (n + 1)) (lapsed_nodes c H m))) e
     ∙ (append_assoc found (sessions_on H n) (all_on H (filter (nat_le (n + 1)) (lapsed_nodes c H m)))
     ∙ (sym (ap (λ (ns : List ℕ). found ++ all_on H ns) front) ∙ way))

@@ -1,5 +1,5 @@
 //! What calls will do to the published map, told ahead, so that its room is taken before a change. None of these calls
-//! changes what the hub stands for.
+//! changes what the hub stands for. Calls of `history_laws` are for the proofs alone.
 ghost use Rattle.std.specs.Prelude.{◌≡◌, ℕ, ◌++◌, true, IfOk, OnOk};
 ghost use Rattle.grid_types.specs.Calls.{Call};
 ghost use Rattle.grid_types.specs.Nodes.{is_registered};
@@ -12,7 +12,7 @@ use crate::answers::Readied;
 use crate::hub::HubCore;
 use crate::session_list::Sessions;
 use crate::tokens::Reservation;
-use grid_types::{Caps, Moment, NoMemory, NodeNo, ReqNo, SessionId};
+use grid_types::{Caps, Moment, NoMemory, NodeNo, ReqNo, SessionId, history_laws};
 use reservation::SlotUse;
 
 /// Adds the sessions that run in the slots.
@@ -40,6 +40,7 @@ impl HubCore {
         ensures tells { CoreTells self.old (λ H. (caller : ℕ) → MayCall H caller (Call.bind reservation.now session.now caps.now) → ReadiedTells self.old.config H caller reservation.now session.now caps.now _at.0 result) }
         ensures room { RoomIfBinds self.new session.now result }
     {
+        history_laws();
         if self.refusal(reservation, session, caps).is_some() {
             return Readied::Refuses;
         }
@@ -56,6 +57,7 @@ impl HubCore {
     pub fn ending(&self, session: &SessionId, binding: ReqNo) -> bool
         ensures { CoreTells self.now (λ H. (caller at : ℕ) → Publishes self.now.config H caller (Call.end session.now binding) at (removal_in (ends_session result session.now))) }
     {
+        history_laws();
         match self.seat(session, binding) {
             Some(_seat) => true,
             None => false,
@@ -66,6 +68,7 @@ impl HubCore {
     pub fn expiring(&self, at: Moment) -> Option<SessionId>
         ensures { CoreTells self.now (λ H. (caller : ℕ) → Publishes self.now.config H caller Call.expire at.0 (removal_in result)) }
     {
+        history_laws();
         let now = self.tables.raised(at);
         match self.next_idle(now) {
             Some(idle) => Some(idle.session),
@@ -77,6 +80,7 @@ impl HubCore {
     pub fn lapsing(&self, at: Moment) -> Result<Sessions, NoMemory>
         ensures { IfOk result (λ sessions. CoreTells self.now (λ H. (caller : ℕ) → Publishes self.now.config H caller Call.sweep at.0 (removals_of sessions))) }
     {
+        history_laws();
         let now = self.tables.raised(at);
         let mut sessions = Sessions::new(self.alloc);
         let mut from = 0;
