@@ -10,7 +10,7 @@ use Rattle.grid_types.specs.History.{all_told, history_of}
 use Rattle.grid_types.specs.Slots.{slot_at, slots_of}
 use Rattle.grid_types.specs.Choice as choice
 use Rattle.grid_types.specs.Choice.{all_slots, assignments_of}
-use Rattle.hub_twin.specs.Best.{best_with, best_of, list_told}
+use Rattle.hub_twin.specs.Best.{best_with, best_of}
 use Rattle.hub_twin.specs.Meaning.{on_slot, slot_choices}
 use Rattle.hub_twin.proofs.WalkLemmas.{history-more}
 use Rattle.hub_twin.proofs.SlotLemmas.{numbers-more, slots-more, map-last}
@@ -53,6 +53,11 @@ number-more {X} before fits best f i =
     ∙ ap (λ (k : ℕ). best_of before fits best (flat_map f (numbers_from 0 i ++ k ∷ []))) (omega arith)
     ∙ last-list before fits best f (numbers_from 0 i) i
 
+-- the list of what an entry tells
+abbrev list_told : {X : Type 0} → (ℕ → List X) → Option ℕ → List X
+list_told f None = []
+list_told f (Some n) = f n
+
 told-walk : {X : Type 0} (before : X → X → Bool) (fits : X → Bool) (best : Option X) (f : ℕ → List X) (ns : List ℕ) (o : Option ℕ) →
     best_of before fits best (flat_map f (with_last ns o)) ≡ best_of before fits (best_of before fits best (list_told f o)) (flat_map f ns)
 told-walk before fits best f ns None = refl
@@ -86,8 +91,9 @@ pub number-back : {X : Type 0} (before : X → X → Bool) (fits : X → Bool) (
 number-back before fits best f rest some =
     sym (number-more before fits best f (rest - 1)) ∙ ap (λ (i : ℕ). best_of before fits best (flat_map f (numbers_from 0 i))) (omega arith)
 
-pub entry-back : {X : Type 0} (before : X → X → Bool) (fits : X → Bool) (best : Option X) (f : ℕ → List X) (told : Change → Option ℕ) (journal : List Entry) (rest : ℕ) (d : Entry) → 0 < rest → rest ≤ length journal →
-    best_of before fits (best_of before fits best (list_told f (told (get_or journal (rest - 1) d).change))) (flat_map f (all_told told (history_of (take (rest - 1) journal)))) ≡ best_of before fits best (flat_map f (all_told told (history_of (take rest journal))))
-entry-back before fits best f told journal rest d some few =
+pub entry-back : {X : Type 0} (before : X → X → Bool) (fits : X → Bool) (best : Option X) (f : ℕ → List X) (told : Change → Option ℕ) (journal : List Entry) (rest : ℕ) (d : Entry) (n : ℕ) → 0 < rest → rest ≤ length journal → told (get_or journal (rest - 1) d).change ≡ Some n →
+    best_of before fits (best_of before fits best (f n)) (flat_map f (all_told told (history_of (take (rest - 1) journal)))) ≡ best_of before fits best (flat_map f (all_told told (history_of (take rest journal))))
+entry-back before fits best f told journal rest d n some few there =
     let below : rest - 1 < length journal = omega arith in
-    sym (entry-more before fits best f told journal (rest - 1) d below) ∙ ap (λ (i : ℕ). best_of before fits best (flat_map f (all_told told (history_of (take i journal))))) (omega arith)
+    ap (λ (o : Option ℕ). best_of before fits (best_of before fits best (list_told f o)) (flat_map f (all_told told (history_of (take (rest - 1) journal))))) (sym there)
+    ∙ sym (entry-more before fits best f told journal (rest - 1) d below) ∙ ap (λ (i : ℕ). best_of before fits best (flat_map f (all_told told (history_of (take i journal))))) (omega arith)

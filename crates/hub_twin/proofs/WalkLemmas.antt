@@ -3,7 +3,6 @@ use Rattle.std.proofs.Common.{◌≡◌, ℕ, zero, suc, ◌+◌, ◌<◌, Bool,
 use Rattle.std.proofs.lemmas.List.{reverse-append, take_more}
 use Rattle.std.specs.Prelude.{Option, None, Some, find, filter, is_some, nat_eq, nat_lt}
 use Rattle.std.specs.List.{list_any, slice_get}
-use Rattle.std.specs.Option.{option_or}
 use Rattle.grid_types.specs.declared.entry.Entry.{Entry}
 use Rattle.grid_types.specs.declared.entry.Change.{Change}
 use Rattle.grid_types.specs.Lists.{when, kept, with_last, better, least}
@@ -16,34 +15,20 @@ history-more journal i d below = ap history_of (take_more journal i d below) ∙
 pub history-step : (journal : List Entry) (i : ℕ) (e : Entry) → i < length journal → e ≡ get_or journal i e → history_of (take (i + 1) journal) ≡ e ∷ history_of (take i journal)
 history-step journal i e below here = history-more journal i e below ∙ ap (λ (x : Entry). x ∷ history_of (take i journal)) (sym here)
 
-find-append : {X : Type 0} (p : X → Bool) (xs : List X) (x : X) → find p (xs ++ x ∷ []) ≡ option_or (find p xs) (when (p x) x)
-find-append p [] x = refl
-find-append {X} p (y ∷ ys) x = by_test (p y) (find-append p ys x)
+-- the first that is found, and whether there is one
+pub found_first : {X : Type 0} (p : X → Bool) (xs : List X) → slice_get (filter p xs) 0 ≡ find p xs
+found_first p [] = refl
+found_first {X} p (x ∷ xs) = by_test (p x) (found_first p xs)
   where
-    by_test : (b : Bool) → find p (ys ++ x ∷ []) ≡ option_or (find p ys) (when (p x) x) → cond b (Some y) (find p (ys ++ x ∷ [])) ≡ option_or (cond b (Some y) (find p ys)) (when (p x) x)
+    by_test : (b : Bool) → slice_get (filter p xs) 0 ≡ find p xs → slice_get (cond b (x ∷ filter p xs) (filter p xs)) 0 ≡ cond b (Some x) (find p xs)
     by_test true h = refl
     by_test false h = h
 
-pub find-last : {X : Type 0} (p : X → Bool) (xs : List X) (o : Option X) → find p (with_last xs o) ≡ option_or (find p xs) (kept p o)
-find-last {X} p xs None = by_found (find p xs)
+pub any_first : {X : Type 0} (p : X → Bool) (xs : List X) → is_some (slice_get (filter p xs) 0) ≡ list_any p xs
+any_first p [] = refl
+any_first {X} p (x ∷ xs) = by_test (p x) (any_first p xs)
   where
-    by_found : (o : Option X) → o ≡ option_or o None
-    by_found None = refl
-    by_found (Some x) = refl
-find-last p xs (Some x) = find-append p xs x
-
--- what is found with one more entry
-pub found-step : {X : Type 0} (p : X → Bool) (told : Change → Option X) (journal : List Entry) (i : ℕ) (e : Entry) → i < length journal → e ≡ get_or journal i e →
-    option_or (find p (all_told told (history_of (take i journal)))) (kept p (told e.change)) ≡ find p (all_told told (history_of (take (i + 1) journal)))
-found-step p told journal i e below here =
-    sym (find-last p (all_told told (history_of (take i journal))) (told e.change))
-    ∙ ap (λ (H : List Entry). find p (all_told told H)) (sym (history-step journal i e below here))
-
-pub any_found : {X : Type 0} (p : X → Bool) (xs : List X) → is_some (find p xs) ≡ list_any p xs
-any_found p [] = refl
-any_found {X} p (x ∷ xs) = by_test (p x) (any_found p xs)
-  where
-    by_test : (b : Bool) → is_some (find p xs) ≡ list_any p xs → is_some (cond b (Some x) (find p xs)) ≡ (b || list_any p xs)
+    by_test : (b : Bool) → is_some (slice_get (filter p xs) 0) ≡ list_any p xs → is_some (slice_get (cond b (x ∷ filter p xs) (filter p xs)) 0) ≡ (b || list_any p xs)
     by_test true h = refl
     by_test false h = h
 
@@ -86,6 +71,15 @@ listed-step p told journal i e o below here meant =
     ap (λ (H : List Entry). filter p (all_told told H)) (history-step journal i e below here)
     ∙ filter-last p (all_told told (history_of (take i journal))) (told e.change)
     ∙ ap (with_last (filter p (all_told told (history_of (take i journal))))) (sym meant)
+
+-- how many there are with one more
+pub length-last : {X : Type 0} (xs : List X) (o : Option X) → length (with_last xs o) ≡ length xs + cond (is_some o) 1 0
+length-last xs None = omega arith
+length-last xs (Some x) = by_list xs
+  where
+    by_list : (ys : List _) → length (ys ++ x ∷ []) ≡ length ys + 1
+    by_list [] = refl
+    by_list (y ∷ ys) = let rest = by_list ys in omega (arith, rest)
 
 pub least-last : (xs : List ℕ) (x : ℕ) → least nat_lt (xs ++ x ∷ []) ≡ better nat_lt x (least nat_lt xs)
 least-last [] x = refl

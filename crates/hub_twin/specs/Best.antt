@@ -1,5 +1,5 @@
 -- The least of what fits in a list, or what was the best before.
-use Rattle.std.specs.Prelude.{ℕ, Bool, cond, List, [], ◌∷◌, Option, None, Some}
+use Rattle.std.specs.Prelude.{Bool, cond, List, [], ◌∷◌, Option}
 use Rattle.grid_types.specs.Lists.{better}
 
 -- x, where it fits and nothing better is there
@@ -10,8 +10,3 @@ best_with before fits x best = cond (fits x) (better before x best) best
 abbrev pub best_of : {X : Type 0} → (X → X → Bool) → (X → Bool) → Option X → List X → Option X
 best_of before fits best [] = best
 best_of before fits best (x ∷ xs) = best_with before fits x (best_of before fits best xs)
-
--- the list of what an entry tells
-abbrev pub list_told : {X : Type 0} → (ℕ → List X) → Option ℕ → List X
-list_told f None = []
-list_told f (Some n) = f n

@@ -1,9 +1,13 @@
--- Which nodes and requests a list is of.
-use Rattle.std.specs.Prelude.{ℕ, ◌-◌, Bool, ◌&&◌, not, nat_le, List}
+-- Which nodes, requests and sessions are meant.
+use Rattle.std.specs.Prelude.{ℕ, ◌-◌, Bool, ◌&&◌, not, nat_le, List, Option}
 use Rattle.grid_types.specs.declared.entry.Entry.{Entry}
+use Rattle.grid_types.specs.Lists.{kept}
+use Rattle.grid_types.specs.History.{last_told}
 use Rattle.grid_types.specs.Nodes.{is_registered, is_draining, is_suspect, beat_of}
 use Rattle.grid_types.specs.Slots.{has_slot_in_use, is_listed}
 use Rattle.grid_types.specs.Requests.{place, is_unsettled, is_waiting, deadline_of}
+use Rattle.grid_types.specs.Bindings.{Running, running_told, is_of_binding}
+use Rattle.grid_types.specs.Sessions.{is_of_session}
 use Rattle.grid_types.specs.Fit.{serves}
 use Rattle.grid_types.specs.Permitted.{is_named, is_alternative}
 use Rattle.grid_types.specs.Overview.{is_ready}
@@ -11,6 +15,8 @@ use Rattle.hub_twin.specs.declared.meant.NodesThat.{NodesThat}
 use Rattle.hub_twin.specs.declared.meant.NodesThat.TheVariants as nodes_that
 use Rattle.hub_twin.specs.declared.meant.RequestsThat.{RequestsThat}
 use Rattle.hub_twin.specs.declared.meant.RequestsThat.TheVariants as requests_that
+use Rattle.hub_twin.specs.declared.sessions.SessionsThat.{SessionsThat}
+use Rattle.hub_twin.specs.declared.sessions.SessionsThat.TheVariants as sessions_that
 
 -- the node is among those that are meant
 abbrev pub node_passes : List Entry → NodesThat → ℕ → Bool
@@ -29,3 +35,12 @@ abbrev pub request_passes : List Entry → RequestsThat → ℕ → Bool
 request_passes H requests_that.AreUnsettled r = is_unsettled (place H r)
 request_passes H (requests_that.AreOverdue at) r = is_unsettled (place H r) && nat_le (deadline_of H r) at.0
 request_passes H requests_that.Wait r = is_waiting (place H r)
+
+-- the session is among those that are meant
+abbrev pub session_passes : SessionsThat → Running → Bool
+session_passes (sessions_that.AreOf binding) = is_of_binding binding
+session_passes (sessions_that.Are session) = is_of_session session.now
+
+-- where a session that is meant was bound last
+abbrev pub last_running : SessionsThat → List Entry → Option Running
+last_running that H = last_told (λ before e. kept (session_passes that) (running_told before e.change)) H

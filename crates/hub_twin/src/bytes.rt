@@ -5,7 +5,7 @@ ghost use Rattle.grid_types.specs.Requests.{unsettled_bytes};
 
 use crate::meant::{Requests, RequestsThat};
 use crate::requests::choices_of;
-use crate::walk::meant;
+use crate::walk::Lists;
 use grid_types::{Entry, request_bytes};
 
 /// The bytes of all requests that wait or hold a slot, or the type's end where they pass it.
@@ -18,7 +18,7 @@ pub fn unsettled_bytes(journal: &[Entry]) -> u64
     };
     let mut bytes: u64 = 0;
     for entry in journal {
-        if let Some(request) = meant(&unsettled, &entry.change) {
+        if let Some(request) = unsettled.meant(&entry.change) {
             bytes = bytes.saturating_add(request_bytes(choices_of(journal, request)));
         }
     }

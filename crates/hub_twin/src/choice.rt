@@ -1,19 +1,15 @@
 //! Which assignment is made next.
-ghost use Rattle.std.specs.Prelude.{◌≡◌, ◌*◌, flat_map, option_map};
-ghost use Rattle.grid_types.specs.Lists.{better};
-ghost use Rattle.grid_types.specs.History.{history_of, nodes, node_told, request_told};
-ghost use Rattle.grid_types.specs.Nodes.{max_of};
-ghost use Rattle.grid_types.specs.Slots.{load};
+ghost use Rattle.std.specs.Prelude.{◌≡◌, flat_map, option_map};
+ghost use Rattle.grid_types.specs.History.{history_of, nodes};
 ghost use Rattle.grid_types.specs.Choice.{assignments_of, slot_before, assignment_before, chosen};
-ghost use Rattle.hub_twin.specs.Best.{best_with, best_of, list_told};
+ghost use Rattle.hub_twin.specs.Best.{best_with, best_of};
 ghost use Rattle.hub_twin.specs.Meaning.{as_assignment, fits_at, slot_choices};
 ghost use Rattle.hub_twin.specs.Sizes.{HasSlotNumbers};
 
 use crate::fit::fits;
-use crate::meant::{node_told, request_told};
 use crate::nodes::{max_of, turned};
 use crate::requests::choice_count;
-use crate::slots::{load, slot_count};
+use crate::slots::{slot_count, usage};
 use grid_types::{Change, Entry, Moment, NodeNo, ReqNo, SlotId};
 
 /// A slot for a choice of a request.
@@ -24,21 +20,14 @@ pub struct Assignment {
     pub slot: SlotId,
 }
 
-/// The load of the one slot's node by the other's greatest number of sessions.
-fn weight(journal: &[Entry], slot: SlotId, other: SlotId) -> u64
-    requires sized { HasSlotNumbers (history_of journal.now) }
-    ensures { result ≡ load (history_of journal.now) slot.node * max_of (history_of journal.now) other.node }
-{
-    u64::from(load(journal, slot.node)) * u64::from(max_of(journal, other.node))
-}
-
 /// The order of two slots: least load over the greatest number of sessions, by cross products; then the node whose
 /// last reservation is longest ago; then the least node; then the least index.
 pub fn slot_before(journal: &[Entry], slot: SlotId, other: SlotId) -> bool
     requires sized { HasSlotNumbers (history_of journal.now) }
     ensures { result ≡ slot_before (history_of journal.now) slot other }
 {
-    let (left, right) = (weight(journal, slot, other), weight(journal, other, slot));
+    let left = u64::from(usage(journal, slot.node).load) * u64::from(max_of(journal, other.node));
+    let right = u64::from(usage(journal, other.node).load) * u64::from(max_of(journal, slot.node));
     if left != right {
         return left < right;
     }
@@ -66,17 +55,6 @@ pub fn assignment_before(journal: &[Entry], a: &Assignment, b: &Assignment) -> b
     slot_before(journal, a.slot, b.slot)
 }
 
-/// The assignment, unless the best so far comes before it.
-fn better(journal: &[Entry], a: Assignment, best: Option<Assignment>) -> Option<Assignment>
-    requires sized { HasSlotNumbers (history_of journal.now) }
-    ensures { option_map as_assignment result ≡ better (assignment_before (history_of journal.now)) (as_assignment a) (option_map as_assignment best) }
-{
-    match best {
-        Some(b) if assignment_before(journal, &b, &a) => Some(b),
-        _ => Some(a),
-    }
-}
-
 /// The best so far, or the assignment where it fits and the best so far doesn't come before it.
 fn best_with(
     journal: &[Entry],
@@ -87,10 +65,12 @@ fn best_with(
     requires sized { HasSlotNumbers (history_of journal.now) }
     ensures { option_map as_assignment result ≡ best_with (assignment_before (history_of journal.now)) (fits_at (history_of journal.now) at.0) (as_assignment a) (option_map as_assignment best) }
 {
-    if fits(journal, a.request, a.choice, a.slot, at) {
-        better(journal, a, best)
-    } else {
-        best
+    if !fits(journal, a.request, a.choice, a.slot, at) {
+        return best;
+    }
+    match best {
+        Some(b) if assignment_before(journal, &b, &a) => Some(b),
+        _ => Some(a),
     }
 }
 
@@ -127,24 +107,6 @@ fn best_on_node(
     best
 }
 
-/// The same where an entry registers a node.
-fn best_at_node(
-    journal: &[Entry],
-    request: ReqNo,
-    choice: u16,
-    change: &Change,
-    at: Moment,
-    best: Option<Assignment>,
-) -> Option<Assignment>
-    requires sized { HasSlotNumbers (history_of journal.now) }
-    ensures { option_map as_assignment result ≡ best_of (assignment_before (history_of journal.now)) (fits_at (history_of journal.now) at.0) (option_map as_assignment best) (list_told (slot_choices (history_of journal.now) request choice) (node_told change.now)) }
-{
-    match node_told(change) {
-        Some(node) => best_on_node(journal, request, choice, node, at, best),
-        None => best,
-    }
-}
-
 /// The same for all nodes, from the last that registered back.
 fn best_for_choice(
     journal: &[Entry],
@@ -159,7 +121,9 @@ fn best_for_choice(
     let mut rest = journal.len();
     while rest > 0 {
         rest -= 1;
-        best = best_at_node(journal, request, choice, &journal[rest].change, at, best);
+        if let Change::Registered { node, .. } = &journal[rest].change {
+            best = best_on_node(journal, request, choice, *node, at, best);
+        }
     }
     best
 }
@@ -182,22 +146,6 @@ fn best_for_request(
     best
 }
 
-/// The same where an entry queues a request.
-fn best_at_request(
-    journal: &[Entry],
-    change: &Change,
-    at: Moment,
-    best: Option<Assignment>,
-) -> Option<Assignment>
-    requires sized { HasSlotNumbers (history_of journal.now) }
-    ensures { option_map as_assignment result ≡ best_of (assignment_before (history_of journal.now)) (fits_at (history_of journal.now) at.0) (option_map as_assignment best) (list_told (assignments_of (history_of journal.now)) (request_told change.now)) }
-{
-    match request_told(change) {
-        Some(request) => best_for_request(journal, request, at, best),
-        None => best,
-    }
-}
-
 /// Of all that fit at the moment, the assignment that is made next.
 pub fn chosen(journal: &[Entry], at: Moment) -> Option<Assignment>
     requires sized { HasSlotNumbers (history_of journal.now) }
@@ -207,7 +155,9 @@ pub fn chosen(journal: &[Entry], at: Moment) -> Option<Assignment>
     let mut rest = journal.len();
     while rest > 0 {
         rest -= 1;
-        best = best_at_request(journal, &journal[rest].change, at, best);
+        if let Change::Queued { request, .. } = &journal[rest].change {
+            best = best_for_request(journal, *request, at, best);
+        }
     }
     best
 }

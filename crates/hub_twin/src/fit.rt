@@ -9,10 +9,10 @@ ghost use Rattle.grid_types.specs.Permitted.{is_supported, is_last, wanted_of};
 ghost use Rattle.hub_twin.specs.Sizes.{HasSlotNumbers};
 
 use crate::meant::{Nodes, NodesThat};
-use crate::nodes::{bound_count, drain_after_of, is_up, max_of, registration_of};
+use crate::nodes::{bound_count, is_up, max_of, registration_of};
 use crate::outcomes::is_settled;
 use crate::requests::{choice_of, deadline_of, is_barred, is_waiting, reserved_choice};
-use crate::slots::{held_count, is_free, load};
+use crate::slots::{SlotHolder, holder, usage};
 use crate::walk::any_listed;
 use grid_types::{Caps, Entry, Moment, NodeNo, ReqNo, SlotGroup, SlotId};
 use slot_match::Steps;
@@ -77,11 +77,14 @@ fn has_sessions_left(journal: &[Entry], node: NodeNo) -> bool
     requires sized { HasSlotNumbers (history_of journal.now) }
     ensures { result ≡ has_sessions_left (history_of journal.now) node }
 {
-    let Some(limit) = drain_after_of(journal, node) else {
+    let Some(registration) = registration_of(journal, node) else {
+        return true;
+    };
+    let Some(limit) = registration.drain_after else {
         return true;
     };
     let bound = bound_count(journal, node) as u64;
-    bound.saturating_add(u64::from(held_count(journal, node))) < u64::from(limit)
+    bound.saturating_add(u64::from(usage(journal, node).held)) < u64::from(limit)
 }
 
 /// The slot may be given to the choice of the request at the moment.
@@ -92,10 +95,10 @@ pub fn fits(journal: &[Entry], request: ReqNo, choice: u16, slot: SlotId, at: Mo
 {
     is_waiting(journal, request)
         && at < deadline_of(journal, request)
-        && is_free(journal, slot)
+        && matches!(holder(journal, slot), SlotHolder::Free)
         && is_up(journal, slot.node)
         && !is_barred(journal, request, slot.node)
-        && load(journal, slot.node) < u32::from(max_of(journal, slot.node))
+        && usage(journal, slot.node).load < u32::from(max_of(journal, slot.node))
         && has_sessions_left(journal, slot.node)
         && matches_slot(journal, request, choice, slot)
 }

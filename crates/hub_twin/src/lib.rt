@@ -39,6 +39,6 @@ pub use nodes::{
 };
 pub use outcomes::{Settled, is_settled, outcome_of};
 pub use requests::{Asked, asked_of, deadline_of, is_taken, unsettled_count};
-pub use sessions::{Running, bound_of, live};
-pub use slots::{SlotHolder, bound_slot, has_slot_numbers, holder, slot_count};
+pub use sessions::{Running, bound_of, bound_slot, live};
+pub use slots::{SlotHolder, has_slot_numbers, holder, slot_count};
 pub use views::{has_ready_node, slot_state, wait_view};

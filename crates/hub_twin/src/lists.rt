@@ -1,7 +1,7 @@
 //! Nodes, requests and bindings by their places in lists.
-ghost use Rattle.std.specs.Prelude.{◌≡◌, nat_lt};
+ghost use Rattle.std.specs.Prelude.{◌≡◌, Some, nat_lt};
 ghost use Rattle.std.specs.List.{slice_get};
-ghost use Rattle.grid_types.specs.Lists.{least};
+ghost use Rattle.grid_types.specs.Lists.{better, least};
 ghost use Rattle.grid_types.specs.History.{history_of};
 ghost use Rattle.grid_types.specs.Slots.{listed};
 ghost use Rattle.grid_types.specs.Requests.{waiting_requests};
@@ -10,7 +10,7 @@ ghost use Rattle.hub_twin.specs.Sizes.{HasSlotNumbers};
 
 use crate::meant::{Nodes, NodesThat, Requests, RequestsThat};
 use crate::sessions::{active, is_live};
-use crate::walk::{Lists, least_listed, nth_listed};
+use crate::walk::{Lists, nth_listed};
 use grid_types::{Change, Entry, HubConfig, Moment, NodeNo, ReqNo};
 
 /// The lapsed node at this place, from 0.
@@ -95,30 +95,43 @@ impl Lists for IdleBindings<'_> {
 
     ghost passes = { λ s b. is_live (history_of s.journal.now) b && nat_le s.config.now.idle_ms (s.at - active (history_of s.journal.now) b) };
 
-    fn told(&self, change: &Change) -> Option<ReqNo> {
+    fn meant(&self, change: &Change) -> Option<ReqNo> {
         match change {
-            Change::Bound { request, .. } => Some(*request),
+            Change::Bound { request, .. }
+                if is_live(self.journal, *request)
+                    && self.config.idle_ms
+                        <= self.at.saturating_sub(active(self.journal, *request).0) => {
+                Some(*request)
+            }
             _ => None,
         }
     }
+}
 
-    fn passes(&self, binding: ReqNo) -> bool {
-        is_live(self.journal, binding)
-            && self.config.idle_ms <= self.at.saturating_sub(active(self.journal, binding).0)
+/// The lesser of a number and the least so far.
+fn lesser(number: ReqNo, least: Option<ReqNo>) -> ReqNo
+    ensures { Some result ≡ better nat_lt number least }
+{
+    match least {
+        Some(least) if least < number => least,
+        _ => number,
     }
 }
 
 /// The least binding that is live and idle at the moment.
-#[tactic(auto, using(crate::proofs::WalkLemmas::filter_twice))]
 pub fn idle_binding(config: &HubConfig, journal: &[Entry], at: Moment) -> Option<ReqNo>
     ensures { result ≡ least nat_lt (idle_bindings config.now (history_of journal.now) at.0) }
 {
-    least_listed(
+    let idle = IdleBindings {
+        config,
         journal,
-        &IdleBindings {
-            config,
-            journal,
-            at: at.0,
-        },
-    )
+        at: at.0,
+    };
+    let mut least = None;
+    for entry in journal {
+        if let Some(number) = idle.meant(&entry.change) {
+            least = Some(lesser(number, least));
+        }
+    }
+    least
 }

@@ -1,7 +1,7 @@
 //! The nodes and the requests that a list keeps.
 ghost use Rattle.std.specs.Prelude.{◌≡◌};
-ghost use Rattle.grid_types.specs.History.{history_of, node_told, request_told};
-ghost use Rattle.hub_twin.specs.Meant.{node_passes, request_passes};
+ghost use Rattle.grid_types.specs.History.{history_of};
+ghost use Rattle.hub_twin.specs.Meant.{node_passes};
 ghost use Rattle.hub_twin.specs.Sizes.{HasSlotNumbers};
 
 use crate::fit::serves;
@@ -77,22 +77,13 @@ impl Lists for Nodes<'_> {
 
     ghost passes = { λ s n. node_passes (history_of s.journal.now) s.that n };
 
-    fn told(&self, change: &Change) -> Option<NodeNo> {
-        node_told(change)
-    }
-
-    fn passes(&self, node: NodeNo) -> bool {
-        node_passes(self.journal, self.that, node)
-    }
-}
-
-/// The number of a node that registers.
-pub(crate) fn node_told(change: &Change) -> Option<NodeNo>
-    ensures { result ≡ node_told change.now }
-{
-    match change {
-        Change::Registered { node, .. } => Some(*node),
-        _ => None,
+    fn meant(&self, change: &Change) -> Option<NodeNo> {
+        match change {
+            Change::Registered { node, .. } if node_passes(self.journal, self.that, *node) => {
+                Some(*node)
+            }
+            _ => None,
+        }
     }
 }
 
@@ -124,26 +115,16 @@ impl Lists for Requests<'_> {
 
     ghost passes = { λ s r. request_passes (history_of s.journal.now) s.that r };
 
-    fn told(&self, change: &Change) -> Option<ReqNo> {
-        request_told(change)
-    }
-
-    fn passes(&self, request: ReqNo) -> bool {
-        match self.that {
-            RequestsThat::AreUnsettled => is_unsettled(self.journal, request),
-            RequestsThat::AreOverdue(at) => is_unsettled(self.journal, request)
-                && deadline_of(self.journal, request) <= at,
-            RequestsThat::Wait => is_waiting(self.journal, request),
-        }
-    }
-}
-
-/// The number of a request that is queued.
-pub(crate) fn request_told(change: &Change) -> Option<ReqNo>
-    ensures { result ≡ request_told change.now }
-{
-    match change {
-        Change::Queued { request, .. } => Some(*request),
-        _ => None,
+    fn meant(&self, change: &Change) -> Option<ReqNo> {
+        let Change::Queued { request, .. } = change else {
+            return None;
+        };
+        let passes = match self.that {
+            RequestsThat::AreUnsettled => is_unsettled(self.journal, *request),
+            RequestsThat::AreOverdue(at) => is_unsettled(self.journal, *request)
+                && deadline_of(self.journal, *request) <= at,
+            RequestsThat::Wait => is_waiting(self.journal, *request),
+        };
+        if passes { Some(*request) } else { None }
     }
 }

@@ -2,12 +2,12 @@
 ghost use Rattle.std.specs.Prelude.{◌≡◌, ◌&&◌, is_some, option_copied, unwrap_or, [], find, List, ℕ, Option};
 ghost use Rattle.grid_types.specs.declared.capabilities.Registration.{Registration};
 ghost use Rattle.grid_types.specs.History.{history_of, nodes};
-ghost use Rattle.grid_types.specs.Nodes.{address_of, max_of, base_of, standing_of, is_up, is_base_up, is_suspect, is_draining, is_registered, beat_of, turned, registration_of, drain_after_of, binds_on, bound_count};
+ghost use Rattle.grid_types.specs.Nodes.{address_of, max_of, base_of, standing_of, is_up, is_base_up, is_suspect, is_draining, is_registered, beat_of, turned, registration_of, bound_count};
 ghost use Rattle.grid_types.specs.Permitted.{is_named, has_name};
 ghost use Rattle.hub_twin.specs.Sizes.{HasSlotNumbers};
 
 use crate::meant::{Nodes, NodesThat};
-use crate::walk::{Tells, first_listed, last_told};
+use crate::walk::{Tells, last_told, nth_listed};
 use grid_types::{Change, Entry, Moment, NodeAddress, NodeNo, Registration, Standing};
 
 #[derive(Clone, Copy)]
@@ -174,33 +174,16 @@ pub fn max_of(journal: &[Entry], node: NodeNo) -> u16
     }
 }
 
-/// The count of sessions after which a node drains, where it has one.
-pub(crate) fn drain_after_of(journal: &[Entry], node: NodeNo) -> Option<u32>
-    ensures { result ≡ drain_after_of (history_of journal.now) node }
-{
-    match registration_of(journal, node) {
-        Some(registration) => registration.drain_after,
-        None => None,
-    }
-}
-
-fn binds_on(node: NodeNo, change: &Change) -> bool
-    ensures { result ≡ binds_on node change.now }
-{
-    match change {
-        Change::Bound { slot, .. } => slot.node == node,
-        _ => false,
-    }
-}
-
 /// How many sessions were bound on a node in all.
 pub fn bound_count(journal: &[Entry], node: NodeNo) -> usize
     ensures { result ≡ bound_count (history_of journal.now) node }
 {
     let mut count = 0;
     for entry in journal {
-        if binds_on(node, &entry.change) {
-            count += 1;
+        if let Change::Bound { slot, .. } = &entry.change {
+            if slot.node == node {
+                count += 1;
+            }
         }
     }
     count
@@ -216,17 +199,13 @@ pub(crate) fn has_name(registration: Option<&Registration>, name: &str) -> bool
 }
 
 /// The first registered node of this name.
+#[tactic(auto, using(crate::proofs::WalkLemmas::found_first))]
 pub fn node_named(journal: &[Entry], name: &str) -> Option<NodeNo>
     requires sized { HasSlotNumbers (history_of journal.now) }
     ensures { result ≡ find (is_named (history_of journal.now) name.now) (nodes (history_of journal.now)) }
 {
-    first_listed(
-        journal,
-        &Nodes {
-            journal,
-            that: NodesThat::AreNamed(name),
-        },
-    )
+    let that = NodesThat::AreNamed(name);
+    nth_listed(journal, &Nodes { journal, that }, 0)
 }
 
 #[derive(Clone, Copy)]

@@ -1,4 +1,4 @@
-//! The outcome of a request.
+//! The outcome of a request. Calls of `history_laws` are for the proofs alone.
 ghost use Rattle.std.specs.Prelude.{◌≡◌, true, option_map};
 ghost use Rattle.grid_types.specs.declared.config.HubConfig.{HubConfig};
 ghost use Rattle.grid_types.specs.Legal.{legal};
@@ -9,7 +9,9 @@ ghost use Rattle.hub_twin.specs.Placed.{all_there, is_addressed_outcome, placed_
 
 use crate::nodes::address_of;
 use crate::requests::deadline_of;
-use grid_types::{Caps, Change, Entry, FailWhy, Moment, NodeAddress, ReqNo, SessionId, SlotId};
+use grid_types::{
+    Caps, Change, Entry, FailWhy, Moment, NodeAddress, ReqNo, SessionId, SlotId, history_laws,
+};
 
 /// How a request was settled.
 #[derive(Clone, Copy)]
@@ -75,6 +77,7 @@ pub fn outcome_of(journal: &[Entry], request: ReqNo) -> Option<Settled<'_>>
     ensures value { option_map as_outcome result ≡ outcome_of (history_of journal.now) request }
     ensures address { (config : HubConfig) → legal config (history_of journal.now) ≡ true → all_there is_addressed_outcome result ≡ true }
 {
+    history_laws();
     let mut first = None;
     for (i, entry) in journal.iter().enumerate() {
         if first.is_none() {

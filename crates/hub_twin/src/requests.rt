@@ -1,14 +1,14 @@
 //! What a journal says of a request.
-ghost use Rattle.std.specs.Prelude.{◌≡◌, option_map, option_copied, unwrap_or, filter, length, []};
+ghost use Rattle.std.specs.Prelude.{◌≡◌, option_map, option_copied, unwrap_or, length, []};
 ghost use Rattle.std.specs.List.{slice_get};
-ghost use Rattle.grid_types.specs.History.{history_of, request_told};
-ghost use Rattle.grid_types.specs.Requests.{asked_of, choices_of, choice_of, deadline_of, is_taken, is_taken_by, is_reserved, is_barred, barred_told, is_settled, place, is_waiting, is_held, is_unsettled, unsettled, waiting_requests};
+ghost use Rattle.grid_types.specs.History.{history_of};
+ghost use Rattle.grid_types.specs.Requests.{asked_of, choices_of, choice_of, deadline_of, is_taken, is_reserved, is_barred, place, is_waiting, is_unsettled, unsettled};
 ghost use Rattle.grid_types.specs.Permitted.{reserved_choice};
 ghost use Rattle.hub_twin.specs.Meaning.{as_asked};
 
 use crate::meant::{Requests, RequestsThat};
 use crate::outcomes::is_settled;
-use crate::walk::{Tells, count_listed, last_told};
+use crate::walk::{Lists, Tells, last_told};
 use grid_types::{Caps, Change, Choices, Entry, Moment, NodeNo, ReqNo, SlotId};
 
 /// What was asked for, until when and by whom.
@@ -82,25 +82,19 @@ pub fn deadline_of(journal: &[Entry], request: ReqNo) -> Moment
     }
 }
 
-fn is_taken_by(request: ReqNo, change: &Change) -> bool
-    ensures { result ≡ is_taken_by request change.now }
-{
-    match change {
-        Change::Taken {
-            request: number,
-            ..
-        } => *number == request,
-        _ => false,
-    }
-}
-
 /// The request's outcome was handed out.
 pub fn is_taken(journal: &[Entry], request: ReqNo) -> bool
     ensures { result ≡ is_taken (history_of journal.now) request }
 {
     let mut taken = false;
     for entry in journal {
-        taken = is_taken_by(request, &entry.change) || taken;
+        if let Change::Taken {
+            request: number,
+            ..
+        } = &entry.change
+        {
+            taken = *number == request || taken;
+        }
     }
     taken
 }
@@ -150,26 +144,20 @@ pub fn is_unsettled(journal: &[Entry], request: ReqNo) -> bool
         && (is_reserved(journal, request) || asked_of(journal, request).is_some())
 }
 
-fn barred_told(request: ReqNo, node: NodeNo, change: &Change) -> bool
-    ensures { result ≡ barred_told request node change.now }
-{
-    match change {
-        Change::Failed {
-            request: number,
-            slot,
-            ..
-        } => *number == request && slot.node == node,
-        _ => false,
-    }
-}
-
 /// A start of the request failed on the node.
 pub fn is_barred(journal: &[Entry], request: ReqNo, node: NodeNo) -> bool
     ensures { result ≡ is_barred (history_of journal.now) request node }
 {
     let mut barred = false;
     for entry in journal {
-        barred = barred_told(request, node, &entry.change) || barred;
+        if let Change::Failed {
+            request: number,
+            slot,
+            ..
+        } = &entry.change
+        {
+            barred = (*number == request && slot.node == node) || barred;
+        }
     }
     barred
 }
@@ -203,11 +191,15 @@ pub fn reserved_choice(journal: &[Entry], slot: SlotId) -> u16
 pub fn unsettled_count(journal: &[Entry]) -> usize
     ensures { result ≡ length (unsettled (history_of journal.now)) }
 {
-    count_listed(
+    let unsettled = Requests {
         journal,
-        &Requests {
-            journal,
-            that: RequestsThat::AreUnsettled,
-        },
-    )
+        that: RequestsThat::AreUnsettled,
+    };
+    let mut count = 0;
+    for entry in journal {
+        if unsettled.meant(&entry.change).is_some() {
+            count += 1;
+        }
+    }
+    count
 }

@@ -1,17 +1,17 @@
-//! What a journal says of sessions and their bindings.
+//! What a journal says of sessions and their bindings. Calls of `history_laws` are for the proofs alone.
 ghost use Rattle.std.specs.Prelude.{◌≡◌, true, option_map};
 ghost use Rattle.grid_types.specs.declared.config.HubConfig.{HubConfig};
 ghost use Rattle.grid_types.specs.Legal.{legal};
 ghost use Rattle.grid_types.specs.History.{history_of};
-ghost use Rattle.grid_types.specs.Bindings.{bound_of};
-ghost use Rattle.grid_types.specs.Sessions.{is_live, last_bound, live, active};
+ghost use Rattle.grid_types.specs.Bindings.{bound_of, bound_slot};
+ghost use Rattle.grid_types.specs.Sessions.{is_live, live, active};
 ghost use Rattle.hub_twin.specs.Meaning.{as_running};
+ghost use Rattle.hub_twin.specs.Meant.{last_running};
 ghost use Rattle.hub_twin.specs.Placed.{all_there, is_addressed};
 
 use crate::nodes::address_of;
-use crate::slots::bound_slot;
 use crate::walk::{Tells, last_told};
-use grid_types::{Change, Entry, Moment, NodeAddress, ReqNo, SessionId, SlotId};
+use grid_types::{Change, Entry, Moment, NodeAddress, ReqNo, SessionId, SlotId, history_laws};
 
 /// Where a session runs.
 #[derive(Clone, Copy)]
@@ -23,11 +23,21 @@ pub struct Running {
     pub binding: ReqNo,
 }
 
-/// What a binding's last `Bound` says.
-pub fn bound_of(journal: &[Entry], binding: ReqNo) -> Option<Running>
-    ensures value { option_map as_running result ≡ bound_of (history_of journal.now) binding }
+/// Which sessions are meant.
+#[derive(Clone, Copy)]
+pub(crate) enum SessionsThat<'a> {
+    /// Bound under this binding.
+    AreOf(ReqNo),
+    /// Of this id.
+    Are(&'a SessionId),
+}
+
+/// Where a session that is meant was bound last.
+fn last_running(journal: &[Entry], that: SessionsThat<'_>) -> Option<Running>
+    ensures value { option_map as_running result ≡ last_running that.entry (history_of journal.now) }
     ensures address { (config : HubConfig) → legal config (history_of journal.now) ≡ true → all_there is_addressed result ≡ true }
 {
+    history_laws();
     let mut found = None;
     for (i, entry) in journal.iter().enumerate() {
         if let Change::Bound {
@@ -37,17 +47,39 @@ pub fn bound_of(journal: &[Entry], binding: ReqNo) -> Option<Running>
             ..
         } = &entry.change
         {
-            if *request == binding {
+            let is_meant = match that {
+                SessionsThat::AreOf(binding) => *request == binding,
+                SessionsThat::Are(meant) => session.as_bytes() == meant.as_bytes(),
+            };
+            if is_meant {
                 found = Some(Running {
                     session: *session,
                     slot: *slot,
                     address: address_of(&journal[..i], slot.node),
-                    binding,
+                    binding: *request,
                 });
             }
         }
     }
     found
+}
+
+/// What a binding's last `Bound` says.
+pub fn bound_of(journal: &[Entry], binding: ReqNo) -> Option<Running>
+    ensures value { option_map as_running result ≡ bound_of (history_of journal.now) binding }
+    ensures address { (config : HubConfig) → legal config (history_of journal.now) ≡ true → all_there is_addressed result ≡ true }
+{
+    last_running(journal, SessionsThat::AreOf(binding))
+}
+
+/// The slot that a binding's last `Bound` names.
+pub fn bound_slot(journal: &[Entry], binding: ReqNo) -> Option<SlotId>
+    ensures { result ≡ bound_slot (history_of journal.now) binding }
+{
+    match bound_of(journal, binding) {
+        Some(running) => Some(running.slot),
+        None => None,
+    }
 }
 
 #[derive(Clone, Copy)]
@@ -80,39 +112,12 @@ pub fn is_live(journal: &[Entry], binding: ReqNo) -> bool
     last_told(journal, &LiveBinding(binding)).unwrap_or(false)
 }
 
-/// Where the session was bound last.
-pub fn last_bound(journal: &[Entry], session: &SessionId) -> Option<Running>
-    ensures value { option_map as_running result ≡ last_bound (history_of journal.now) session.now }
-    ensures address { (config : HubConfig) → legal config (history_of journal.now) ≡ true → all_there is_addressed result ≡ true }
-{
-    let mut found = None;
-    for (i, entry) in journal.iter().enumerate() {
-        if let Change::Bound {
-            request,
-            slot,
-            session: bound,
-            ..
-        } = &entry.change
-        {
-            if bound.as_bytes() == session.as_bytes() {
-                found = Some(Running {
-                    session: *bound,
-                    slot: *slot,
-                    address: address_of(&journal[..i], slot.node),
-                    binding: *request,
-                });
-            }
-        }
-    }
-    found
-}
-
 /// Where the session is live.
 pub fn live(journal: &[Entry], session: &SessionId) -> Option<Running>
     ensures value { option_map as_running result ≡ live (history_of journal.now) session.now }
     ensures address { (config : HubConfig) → legal config (history_of journal.now) ≡ true → all_there is_addressed result ≡ true }
 {
-    match last_bound(journal, session) {
+    match last_running(journal, SessionsThat::Are(session)) {
         Some(running) if is_live(journal, running.binding) => Some(running),
         _ => None,
     }

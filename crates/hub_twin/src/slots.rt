@@ -2,13 +2,12 @@
 ghost use Rattle.std.specs.Prelude.{◌≡◌, ◌-◌, ◌^◌, min, length, option_map, ◌↔◌, IsTrue};
 ghost use Rattle.grid_types.specs.History.{history_of};
 ghost use Rattle.grid_types.specs.Nodes.{stereotypes, stereotypes_of};
-ghost use Rattle.grid_types.specs.Bindings.{bound_slot};
-ghost use Rattle.grid_types.specs.Slots.{holder, holder_told, is_free, is_held_slot, load, held_count, has_slot_in_use, is_listed};
+ghost use Rattle.grid_types.specs.Slots.{holder, holder_told, load, held_count, has_slot_in_use, is_listed};
 ghost use Rattle.hub_twin.specs.Meaning.{as_holder};
 ghost use Rattle.hub_twin.specs.Sizes.{HasSlotNumbers};
 
-use crate::meant::node_told;
 use crate::nodes::{is_registered, registration_of};
+use crate::sessions::bound_slot;
 use crate::walk::{Lists, any_listed};
 use grid_types::{Change, Entry, NodeNo, ReqNo, SessionId, SlotGroup, SlotId};
 
@@ -21,21 +20,6 @@ pub enum SlotHolder {
     Busy(SessionId),
     /// A session is being ended there.
     Closing,
-}
-
-/// The slot that a binding's last `Bound` names.
-pub fn bound_slot(journal: &[Entry], binding: ReqNo) -> Option<SlotId>
-    ensures { result ≡ bound_slot (history_of journal.now) binding }
-{
-    let mut found = None;
-    for entry in journal {
-        if let Change::Bound { request, slot, .. } = &entry.change {
-            if *request == binding {
-                found = Some(*slot);
-            }
-        }
-    }
-    found
 }
 
 /// The holder that a change leaves, where it concerns the slot.
@@ -63,12 +47,10 @@ fn holder_told(
             orphan: Some(_),
             ..
         } => (*of == slot, SlotHolder::Closing),
-        Change::Failed {
-            slot: of,
-            orphan: None,
-            ..
-        } => (*of == slot, SlotHolder::Free),
-        Change::Freed { slot: of } => (*of == slot, SlotHolder::Free),
+        Change::Failed { slot: of, .. } | Change::Freed { slot: of } => (
+            *of == slot,
+            SlotHolder::Free,
+        ),
         Change::Ended { binding, .. } => (
             bound_slot(before, *binding) == Some(slot),
             SlotHolder::Closing,
@@ -93,20 +75,6 @@ pub fn holder(journal: &[Entry], slot: SlotId) -> SlotHolder
         }
     }
     held
-}
-
-/// The slot has no holder.
-pub fn is_free(journal: &[Entry], slot: SlotId) -> bool
-    ensures { result ≡ is_free (holder (history_of journal.now) slot) }
-{
-    matches!(holder(journal, slot), SlotHolder::Free)
-}
-
-/// The slot is held for a request.
-fn is_held(journal: &[Entry], slot: SlotId) -> bool
-    ensures { result ≡ is_held_slot (holder (history_of journal.now) slot) }
-{
-    matches!(holder(journal, slot), SlotHolder::Held(_))
 }
 
 /// How many slots the groups have, or the type's end where they have more.
@@ -144,12 +112,11 @@ impl Lists for OversizedNodes<'_> {
 
     ghost passes = { λ s n. nat_lt 65_536 (length (stereotypes_of (history_of s.0.now) n)) };
 
-    fn told(&self, change: &Change) -> Option<NodeNo> {
-        node_told(change)
-    }
-
-    fn passes(&self, node: NodeNo) -> bool {
-        slot_count(self.0, node) > 65_536
+    fn meant(&self, change: &Change) -> Option<NodeNo> {
+        match change {
+            Change::Registered { node, .. } if slot_count(self.0, *node) > 65_536 => Some(*node),
+            _ => None,
+        }
     }
 }
 
@@ -160,42 +127,36 @@ pub fn has_slot_numbers(journal: &[Entry]) -> bool
     !any_listed(journal, &OversizedNodes(journal))
 }
 
-/// How many slots of a node are not free.
-pub fn load(journal: &[Entry], node: NodeNo) -> u32
-    requires sized { HasSlotNumbers (history_of journal.now) }
-    ensures { result ≡ load (history_of journal.now) node }
-{
-    let mut load = 0;
-    for index in 0..slot_count(journal, node) {
-        if !is_free(
-            journal,
-            SlotId {
-                node,
-                index: index as u16,
-            },
-        ) {
-            load += 1;
-        }
-    }
-    load
+/// How many slots of a node are not free, and how many of these are held.
+#[derive(Clone, Copy)]
+pub(crate) struct UsedSlots {
+    pub(crate) load: u32,
+    pub(crate) held: u32,
 }
 
-/// How many slots of a node are held.
-pub(crate) fn held_count(journal: &[Entry], node: NodeNo) -> u32
+/// How a node's slots are used.
+pub(crate) fn usage(journal: &[Entry], node: NodeNo) -> UsedSlots
     requires sized { HasSlotNumbers (history_of journal.now) }
-    ensures { result ≡ held_count (history_of journal.now) node }
+    ensures load { result.load ≡ load (history_of journal.now) node }
+    ensures held { result.held ≡ held_count (history_of journal.now) node }
 {
+    let mut load = 0;
     let mut held = 0;
     for index in 0..slot_count(journal, node) {
         let slot = SlotId {
             node,
             index: index as u16,
         };
-        if is_held(journal, slot) {
-            held += 1;
+        match holder(journal, slot) {
+            SlotHolder::Free => {}
+            SlotHolder::Held(_) => {
+                load += 1;
+                held += 1;
+            }
+            _ => load += 1,
         }
     }
-    held
+    UsedSlots { load, held }
 }
 
 /// A slot of the node is not free.
@@ -203,7 +164,7 @@ pub fn has_slot_in_use(journal: &[Entry], node: NodeNo) -> bool
     requires sized { HasSlotNumbers (history_of journal.now) }
     ensures { result ≡ has_slot_in_use (history_of journal.now) node }
 {
-    load(journal, node) > 0
+    usage(journal, node).load > 0
 }
 
 /// The node is registered, or has a slot that is not free.

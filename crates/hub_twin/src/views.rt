@@ -1,8 +1,8 @@
 //! What is shown of nodes, slots and waiting requests.
-ghost use Rattle.std.specs.Prelude.{◌≡◌, ◌-◌, ◌^◌, min, length};
+ghost use Rattle.std.specs.Prelude.{◌≡◌, ◌-◌, ◌^◌, min};
 ghost use Rattle.std.specs.List.{list_any};
 ghost use Rattle.grid_types.specs.History.{history_of, nodes};
-ghost use Rattle.grid_types.specs.Slots.{holder, is_free, slots_of};
+ghost use Rattle.grid_types.specs.Slots.{holder};
 ghost use Rattle.grid_types.specs.Requests.{bytes_of};
 ghost use Rattle.grid_types.specs.Overview.{is_ready, state_of, wait_view};
 ghost use Rattle.hub_twin.specs.Sizes.{HasSlotNumbers};
@@ -10,25 +10,21 @@ ghost use Rattle.hub_twin.specs.Sizes.{HasSlotNumbers};
 use crate::meant::{Nodes, NodesThat};
 use crate::nodes::{is_up, max_of};
 use crate::requests::{choice_count, choices_of, deadline_of};
-use crate::slots::{SlotHolder, holder, load, slot_count};
+use crate::slots::{SlotHolder, holder, slot_count, usage};
 use crate::walk::any_listed;
 use grid_types::{Entry, NodeNo, ReqNo, SlotId, SlotState, WaitView, request_bytes};
 
-fn has_free_slot(journal: &[Entry], node: NodeNo) -> bool
-    requires sized { HasSlotNumbers (history_of journal.now) }
-    ensures { result ≡ list_any (λ s. is_free (holder (history_of journal.now) s)) (slots_of (history_of journal.now) node) }
-{
-    load(journal, node) < slot_count(journal, node)
-}
-
 /// An up node below its greatest number of sessions has a free slot.
+#[tactic(auto, using(crate::proofs::SlotLemmas::any_free))]
 pub(crate) fn is_ready(journal: &[Entry], node: NodeNo) -> bool
     requires sized { HasSlotNumbers (history_of journal.now) }
     ensures { result ≡ is_ready (history_of journal.now) node }
 {
-    is_up(journal, node)
-        && load(journal, node) < u32::from(max_of(journal, node))
-        && has_free_slot(journal, node)
+    if !is_up(journal, node) {
+        return false;
+    }
+    let load = usage(journal, node).load;
+    load < u32::from(max_of(journal, node)) && load < slot_count(journal, node)
 }
 
 /// Some node is ready for a session.

@@ -1,9 +1,9 @@
 //! The two loops over a journal: what was told last, and what is listed.
-ghost use Rattle.std.specs.Prelude.{◌≡◌, Bool, List, Option, Some, ℕ, find, filter, length, nat_lt};
+ghost use Rattle.std.specs.Prelude.{◌≡◌, Bool, List, Option, filter};
 ghost use Rattle.std.specs.List.{list_any, slice_get};
 ghost use Rattle.grid_types.specs.declared.entry.Entry.{Entry};
 ghost use Rattle.grid_types.specs.declared.entry.Change.{Change};
-ghost use Rattle.grid_types.specs.Lists.{kept, better, least};
+ghost use Rattle.grid_types.specs.Lists.{kept};
 ghost use Rattle.grid_types.specs.History.{last_told, all_told, history_of};
 
 use grid_types::{Change, Entry};
@@ -37,53 +37,9 @@ pub(crate) trait Lists {
 
     ghost passes: { Self → Self.No → Bool };
 
-    fn told(&self, change: &Change) -> Option<Self::No>
-        ensures { result ≡ told self.now change.now };
-
-    fn passes(&self, number: Self::No) -> bool
-        ensures { result ≡ passes self.now number };
-}
-
-/// The number that a change lists, where it is meant.
-pub(crate) fn meant<L: Lists>(list: &L, change: &Change) -> Option<L::No>
-    ensures { result ≡ kept (L.passes list.now) (L.told list.now change.now) }
-{
-    match list.told(change) {
-        Some(number) if list.passes(number) => Some(number),
-        _ => None,
-    }
-}
-
-/// The first number that is meant.
-pub(crate) fn first_listed<L: Lists>(journal: &[Entry], list: &L) -> Option<L::No>
-    ensures { result ≡ find (L.passes list.now) (all_told (L.told list.now) (history_of journal.now)) }
-{
-    let mut first = None;
-    for entry in journal {
-        first = first.or(meant(list, &entry.change));
-    }
-    first
-}
-
-/// Some number is meant.
-#[tactic(auto, using(crate::proofs::WalkLemmas::any_found))]
-pub(crate) fn any_listed<L: Lists>(journal: &[Entry], list: &L) -> bool
-    ensures { result ≡ list_any (L.passes list.now) (all_told (L.told list.now) (history_of journal.now)) }
-{
-    first_listed(journal, list).is_some()
-}
-
-/// How many numbers are meant.
-pub(crate) fn count_listed<L: Lists>(journal: &[Entry], list: &L) -> usize
-    ensures { result ≡ length (filter (L.passes list.now) (all_told (L.told list.now) (history_of journal.now))) }
-{
-    let mut count = 0;
-    for entry in journal {
-        if meant(list, &entry.change).is_some() {
-            count += 1;
-        }
-    }
-    count
+    /// The number that a change lists, where it is meant.
+    fn meant(&self, change: &Change) -> Option<Self::No>
+        ensures { result ≡ kept (passes self.now) (told self.now change.now) };
 }
 
 /// The number that is meant at this place, from 0.
@@ -94,7 +50,7 @@ pub(crate) fn nth_listed<L: Lists>(journal: &[Entry], list: &L, place: usize) ->
     let mut count = 0;
     let mut found = None;
     for entry in journal {
-        if let Some(number) = meant(list, &entry.change) {
+        if let Some(number) = list.meant(&entry.change) {
             if count == place {
                 found = Some(number);
             }
@@ -104,25 +60,10 @@ pub(crate) fn nth_listed<L: Lists>(journal: &[Entry], list: &L, place: usize) ->
     found
 }
 
-/// The lesser of a number and the least so far.
-fn lesser(number: u64, least: Option<u64>) -> u64
-    ensures { Some result ≡ better nat_lt number least }
+/// Some number is meant.
+#[tactic(auto, using(crate::proofs::WalkLemmas::any_first))]
+pub(crate) fn any_listed<L: Lists>(journal: &[Entry], list: &L) -> bool
+    ensures { result ≡ list_any (L.passes list.now) (all_told (L.told list.now) (history_of journal.now)) }
 {
-    match least {
-        Some(least) if least < number => least,
-        _ => number,
-    }
-}
-
-/// The least number that is meant.
-pub(crate) fn least_listed<L: Lists<No = u64>>(journal: &[Entry], list: &L) -> Option<u64>
-    ensures { result ≡ least nat_lt (filter (L.passes list.now) (all_told (L.told list.now) (history_of journal.now))) }
-{
-    let mut least = None;
-    for entry in journal {
-        if let Some(number) = meant(list, &entry.change) {
-            least = Some(lesser(number, least));
-        }
-    }
-    least
+    nth_listed(journal, list, 0).is_some()
 }

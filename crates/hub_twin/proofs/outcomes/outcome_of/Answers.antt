@@ -7,6 +7,8 @@ use Rattle.hub_twin.proofs.PlacedLemmas.{outcome-addressed}
 use Rattle.hub_twin.proofs.outcomes.outcome_of.Goals as goal
 
 pub returns-clause-address : goal.returns-clause-address
-returns-clause-address c = λ config l.
+returns-clause-address c =
+    let proved = c.history_laws.ensures in
+    λ config l.
     let all : take c.loop-i.i c.args.journal.now ≡ c.args.journal.now = take_all c.loop-i.i c.args.journal.now (omega arith) in
-    outcome-addressed c.args.request config (history_of c.args.journal.now) c.loop-i.first (c.loop-i.invariant.placed ∙ ap (λ (journal : List Entry). placed_outcome (history_of journal) c.args.request) all) l
+    outcome-addressed proved c.args.request config (history_of c.args.journal.now) c.loop-i.first (c.loop-i.invariant.placed ∙ ap (λ (journal : List Entry). placed_outcome (history_of journal) c.args.request) all) l

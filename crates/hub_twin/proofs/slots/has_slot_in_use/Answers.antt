@@ -7,5 +7,5 @@ use Rattle.hub_twin.proofs.slots.has_slot_in_use.Goals as goal
 
 pub returns : goal.returns
 returns c =
-    ap (nat_lt 0) c.load.ensures
+    ap (nat_lt 0) c.usage.ensures.load
     ∙ any-counted (λ s. not (is_free (holder (history_of c.args.journal.now) s))) (slots_of (history_of c.args.journal.now) c.args.node)
