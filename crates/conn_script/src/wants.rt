@@ -1,5 +1,5 @@
 //! What is wanted of a driver, and what it answers.
-use grid_outside::{ExchangeFault, Reply};
+use grid_outside::{ExchangeFault, PIECE_BYTES, Reply};
 use grid_types::{
     Caps, Choices, FailWhy, Found, NoMemory, NodeAddress, NodeNo, Registration, ReqNo, SessionId,
     Spent, View,
@@ -11,7 +11,7 @@ use hub_core::{
 };
 
 /// The longest piece that is read or written at once, in bytes.
-pub const PIECE: u64 = 65_536;
+pub const PIECE: u64 = PIECE_BYTES as u64;
 
 /// How many bytes are read on a connection.
 pub const LIMIT: u64 = 1 << 40;

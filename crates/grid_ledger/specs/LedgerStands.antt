@@ -4,6 +4,7 @@ use Rattle.grid_types.specs.declared.config.HubConfig.{HubConfig}
 use Rattle.grid_types.specs.declared.entry.Entry.{Entry}
 use Rattle.grid_types.specs.declared.entry.Change.{Change}
 use Rattle.grid_types.specs.declared.entry.Change.TheVariants as change
+use Rattle.grid_types.specs.declared.limits.TheConstants.{MOST_SLOTS}
 use Rattle.grid_types.specs.Nodes.{stereotypes}
 use Rattle.grid_types.specs.History.{clock, next_node, next_request}
 use Rattle.grid_types.specs.Legal.{legal}
@@ -41,5 +42,5 @@ pub record Keeps (old new : GridLedger) : Type 0 where
 
 -- what a ledger needs of a change that it notes: a node has no more slots than it may have
 abbrev pub MayNote : Change → Type 0
-MayNote (change.Registered n r at) = length (stereotypes r.groups) ≤ 64
+MayNote (change.Registered n r at) = length (stereotypes r.groups) ≤ MOST_SLOTS
 MayNote c = Unit {0}

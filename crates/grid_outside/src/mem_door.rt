@@ -1,5 +1,6 @@
 //! A door in memory.
 ghost use Rattle.std.specs.Prelude.{◌≡◌, ℕ, ◌-◌, ◌^◌, ◌≤◌, min, List, [], ◌∷◌, ◌++◌, None, Option, Result, is_none, is_err, IfOk, OnOk, OnErr, IfErr};
+ghost use Rattle.grid_types.specs.declared.limits.TheConstants.{LAST_MOMENT};
 ghost use Rattle.grid_outside.specs.Counts.{Rose, HasCause};
 
 use crate::door::Door;
@@ -129,7 +130,7 @@ impl Door for MemDoor {
         ensures faults { self.old.failing.faults ≤ self.new.failing.faults }
         ensures ends { self.old.ends ≤ self.new.ends }
         ensures links { to_hand_out self.new ≡ to_hand_out self.old }
-        ensures at { clock_at result ≡ min (2 ^ 62 - 1) self.old.at.0 }
+        ensures at { clock_at result ≡ min LAST_MOMENT self.old.at.0 }
         ensures pauses { clock_pauses result ≡ record { count = 0; sum = 0 } }
         ensures rest { self.new ≡ self.old }
     {

@@ -3,6 +3,7 @@ use Rattle.std.specs.Prelude.{◌≡◌, ℕ, ◌+◌, ◌≤◌, true, List, []
 use Rattle.grid_types.specs.declared.capabilities.Registration.{Registration}
 use Rattle.grid_types.specs.declared.config.HubConfig.{HubConfig}
 use Rattle.grid_types.specs.declared.entry.Entry.{Entry}
+use Rattle.grid_types.specs.declared.limits.TheConstants.{MOST_SLOTS}
 use Rattle.grid_types.specs.Calls.{Call}
 use Rattle.grid_types.specs.HubAnswers.{after_call}
 use Rattle.hub_core.specs.HubView.{HubView, past}
@@ -54,7 +55,7 @@ first_crew c nodes = crew_from c 1 nodes (record { history = []; nodes = []; num
 -- a node has the slots that a node may have, and its texts leave a reply as small as one that comes over a link
 pub record IsFit (node : PlayNode) : Type 0 where
   pub least : 1 ≤ node.slots
-  pub most : node.slots ≤ 64
+  pub most : node.slots ≤ MOST_SLOTS
   pub short : short_texts (loop_node_of 0 node) ≡ true
 
 abbrev pub AllFit : List PlayNode → Type 0

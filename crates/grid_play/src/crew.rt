@@ -1,5 +1,6 @@
 //! A hub in which the nodes of a play have registered.
 ghost use Rattle.std.specs.Prelude.{◌≡◌, ◌<◌, ◌≤◌, ◌+◌, ◌^◌, ◌++◌, ◌∷◌, [], ℕ, true, codes, decimal, length, IfOk, OnOk};
+ghost use Rattle.grid_types.specs.declared.limits.TheConstants.{MOST_SLOTS};
 ghost use Rattle.grid_types.specs.Config.{IsValid};
 ghost use Rattle.grid_types.specs.Calls.{Call};
 ghost use Rattle.grid_types.specs.HubAnswers.{after_call};
@@ -69,7 +70,7 @@ fn address_of(alloc: Global, i: NodeNo) -> Result<NodeAddress, NoMemory>
 /// What node i says of itself.
 fn registration_of(alloc: Global, i: NodeNo, node: &PlayNode) -> Result<Registration, NoMemory>
     requires least { 1 ≤ node.now.slots }
-    requires most { node.now.slots ≤ 64 }
+    requires most { node.now.slots ≤ MOST_SLOTS }
     ensures is { IfOk result (λ r. r ≡ registration_of i node.now) }
     ensures sized { IfOk result (λ r. is_well_sized r ≡ true) }
 {

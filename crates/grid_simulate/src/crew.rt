@@ -1,5 +1,6 @@
 //! The nodes of a simulation.
 ghost use Rattle.std.specs.Prelude.{◌≡◌, ◌<◌, ◌≤◌, ◌+◌, ◌++◌, ◌∷◌, [], ℕ, true, codes, decimal, IfOk, OnOk};
+ghost use Rattle.grid_types.specs.declared.limits.TheConstants.{MOST_SLOTS};
 ghost use Rattle.grid_types.specs.Config.{IsValid};
 ghost use Rattle.grid_types.specs.Calls.{Call};
 ghost use Rattle.grid_types.specs.HubAnswers.{after_call};
@@ -88,7 +89,7 @@ fn registration_of(
     slots: u16,
 ) -> Result<Registration, NoMemory>
     requires least { 1 ≤ slots }
-    requires most { slots ≤ 64 }
+    requires most { slots ≤ MOST_SLOTS }
     ensures is { IfOk result (λ r. r ≡ registration_of i browser.now slots) }
     ensures sized { IfOk result (λ r. is_well_sized r ≡ true) }
 {
@@ -147,7 +148,7 @@ fn enroll(
 ) -> Result<(), NoMemory>
     requires config { hub.old.config ≡ simulated_config }
     requires least { 1 ≤ slots }
-    requires most { slots ≤ 64 }
+    requires most { slots ≤ MOST_SLOTS }
     ensures config { hub.new.config ≡ simulated_config }
     ensures joins { OnOk result ((number : ℕ) → gathered number hub.new nodes.new
         ≡ joins_as (gathered number hub.old nodes.old) i browser.now slots refuses) }
@@ -165,7 +166,7 @@ fn slots_of(number: u64) -> u16
     requires { number < 4 }
     ensures is { result ≡ 1 + number }
     ensures least { 1 ≤ result }
-    ensures most { result ≤ 64 }
+    ensures most { result ≤ MOST_SLOTS }
 {
     1 + number as u16
 }

@@ -3,7 +3,7 @@ ghost use Rattle.std.specs.Prelude.{◌≡◌, ℕ, ◌<◌, ◌≤◌, ◌+◌,
 ghost use Rattle.grid_outside.specs.Counts.{Rose};
 ghost use Rattle.grid_outside.specs.Exchanges.{is_within};
 
-use grid_outside::{ExchangeFault, KEPT_BYTES, NodeLink, Reply};
+use grid_outside::{ExchangeFault, KEPT_BYTES, NodeLink, PIECE_BYTES, Reply};
 use grid_types::{Bytes, NoMemory, NodeAddress};
 use http_frames::{LIMITS, NodeRequest, RStep, next_response, write_request};
 use std::alloc::{AllocError, Global};
@@ -102,7 +102,7 @@ fn receive<S: Read>(alloc: Global, stream: &mut S) -> Result<Reply, Stop>
     ensures { IfOk result (λ reply. IsTrue (is_within reply)) }
 {
     let mut bytes = Vec::new(alloc);
-    let mut piece = [0; 65_536];
+    let mut piece = [0; PIECE_BYTES];
     for _ in 0..u64::MAX {
         let count = stream.read(&mut piece)?;
         bytes.extend_from_slice(&piece[..count])?;

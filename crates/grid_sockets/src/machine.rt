@@ -3,7 +3,7 @@ ghost use Rattle.std.specs.Prelude.{◌≡◌, ℕ, ◌-◌, ◌^◌, ◌<◌, �
 ghost use Rattle.grid_outside.specs.Told.{later_by};
 
 use grid_outside::Clock;
-use grid_types::Moment;
+use grid_types::{LAST_MOMENT, Moment};
 use std::time;
 use std::time::Duration;
 
@@ -15,8 +15,6 @@ pub struct MachineClock<R: time::Clock + Drop> {
     last: u64,
     ghost bound: { last < 2 ^ 62 },
 }
-
-const LATEST: u64 = (1 << 62) - 1;
 
 impl<R: time::Clock + Drop> MachineClock<R> {
     /// A clock that asks this runtime, and has shown nothing yet.
@@ -32,8 +30,8 @@ impl<R: time::Clock + Drop> MachineClock<R> {
     {
         match self.runtime.monotonic() {
             Ok(since) => u64::try_from(since.as_millis())
-                .unwrap_or(LATEST)
-                .min(LATEST),
+                .unwrap_or(LAST_MOMENT)
+                .min(LAST_MOMENT),
             Err(_) => 0,
         }
     }
@@ -50,7 +48,7 @@ impl<R: time::Clock + Drop> Clock for MachineClock<R> {
     }
 
     fn pause(&mut self, ms: u64) -> Moment {
-        let least = self.last.saturating_add(ms).min(LATEST);
+        let least = self.last.saturating_add(ms).min(LAST_MOMENT);
         self.runtime.sleep(Duration::from_millis(ms));
         self.last = self.shown().max(least);
         Moment(self.last)

@@ -3,6 +3,7 @@ use Rattle.std.specs.Prelude.{◌≡◌, ◌≢◌, ℕ, ◌+◌, ◌^◌, ◌<�
 use Rattle.httparse.specs.Ascii.{carriage_return}
 use Rattle.httparse.specs.Grammar.{RequestHead, ChunkLine, chunk_size}
 use Rattle.http_frames.specs.declared.FrameFault.TheVariants.{HeadTooLong, BadChunk, BodyTooLong}
+use Rattle.http_frames.specs.declared.chunks.TheConstants.{MAX_TRAILERS}
 use Rattle.http_frames.specs.declared.fields.Framing.{Framing}
 use Rattle.http_frames.specs.declared.fields.Framing.TheVariants.{Sized, Chunked, Faulty}
 use Rattle.http_frames.specs.declared.frames.FrameLimits.{FrameLimits}
@@ -30,7 +31,7 @@ bytes_kept r = length r.head.items + length r.body.items + length r.line.items
 pub record IsWithinLimits (limits : FrameLimits) (r : FrameReader) : Type 0 where
   pub head : length r.head.items ≤ limits.head
   pub data_in : length r.body.items ≤ limits.body
-  pub line : length r.line.items ≤ 65536
+  pub line : length r.line.items ≤ MAX_TRAILERS
 
 -- in the head: all bytes are kept, and it is known which bytes leave it unfinished
 pub record IsInHead (limits : FrameLimits) (r : FrameReader) (bytes : List ℕ) : Type 0 where

@@ -7,6 +7,7 @@ use crate::FrameFault;
 use crate::calm::{
     Calm, calm_behind, calm_of_chunk_line, calm_of_head, calm_of_trailers, is_blank, is_calm,
 };
+use crate::chunks::{MAX_CHUNK_LINE, MAX_TRAILERS};
 use crate::fields::Framing;
 use crate::frames::{Body, Frame, FrameLimits, Head, frame_of};
 use crate::heads::{HeadStep, read_head};
@@ -168,7 +169,7 @@ impl FrameReader {
     pub fn kept(&self) -> u64
         ensures held { (limits : FrameLimits) (bytes : List ℕ) → Fed limits self.now bytes → result ≡ bytes_kept self.now }
         ensures bound { (limits : FrameLimits) (bytes : List ℕ) → Fed limits self.now bytes
-            → result ≤ limits.head + limits.body + 65536 }
+            → result ≤ limits.head + limits.body + MAX_TRAILERS }
     {
         (self.head.len() as u64)
             .saturating_add(self.body.len() as u64)
@@ -262,7 +263,7 @@ impl FrameReader {
         ensures kept { OnErr result (KeepsFed self.old self.new) }
     {
         let old = self.line.len();
-        let room = 4096 - old;
+        let room = MAX_CHUNK_LINE - old;
         let part = next_part(piece, room, true);
         let calm = calm_behind(self.calm, part);
         self.line.extend_from_slice(part)?;
@@ -347,7 +348,7 @@ impl FrameReader {
         ensures kept { OnErr result (KeepsFed self.old self.new) }
     {
         let old = self.line.len();
-        let room = 65536 - old;
+        let room = MAX_TRAILERS - old;
         let part = next_part(piece, room, true);
         let calm = calm_behind(self.calm, part);
         self.line.extend_from_slice(part)?;

@@ -2,6 +2,7 @@
 use Rattle.std.specs.Prelude.{◌≡◌, ◌⊎◌, ℕ, ◌≤◌, Bool, true, false, List, [], ◌∷◌, ◌++◌, length, drop, ◌&&◌, ◌||◌, not, ◌==◌}
 use Rattle.json_spans.specs.Bytes.{is_hex, is_high, is_low}
 use Rattle.json_spans.specs.Grammar.{Tree, IsJson, depth, is_d}
+use Rattle.json_spans.specs.declared.machine.TheConstants.{MAX_DEPTH}
 
 -- some JSON text of so many levels at most begins with these bytes
 pub record Begins (levels : ℕ) (front : List ℕ) : Type 0 where
@@ -39,7 +40,7 @@ fits (t ∷ ts) (x ∷ xs) = t x && fits ts xs
 
 -- behind the front a backslash begins an escape: with `\n` there some text goes on, with `\q` none does
 pub record Escapes (front : List ℕ) : Type 0 where
-  pub good : Begins 127 (front ++ 92 ∷ 110 ∷ [])
+  pub good : Begins MAX_DEPTH (front ++ 92 ∷ 110 ∷ [])
   pub bad : (levels : ℕ) → Begins levels (front ++ 92 ∷ 113 ∷ []) → ⊥
 
 -- an escape of a second half, or one of a first half with no escape of a second half at once behind it
@@ -82,7 +83,7 @@ pub record FirstDead (text : List ℕ) (p : ℕ) : Type 0 where
   pub rest : List ℕ
   pub is : text ≡ front ++ rest
   pub at : p ≡ length front
-  pub goes_on : GoesOn 127 front
+  pub goes_on : GoesOn MAX_DEPTH front
   pub dead : Dead front rest
 
 -- the backslash of half of a pair alone, or else the first place where no JSON text goes on
@@ -96,6 +97,6 @@ pub record IsDeepFault (text : List ℕ) (p : ℕ) : Type 0 where
   pub rest : List ℕ
   pub is : text ≡ front ++ x ∷ rest
   pub at : p ≡ length front
-  pub goes_on : Begins 127 front
-  pub over : Begins 127 (front ++ x ∷ []) → ⊥
+  pub goes_on : Begins MAX_DEPTH front
+  pub over : Begins MAX_DEPTH (front ++ x ∷ []) → ⊥
   pub deeper : Begins 128 (front ++ x ∷ [])

@@ -2,6 +2,7 @@
 use Rattle.std.specs.Prelude.{ℕ, ◌+◌, ◌-◌, List, [], ◌∷◌, length, Bool, true, false, if◌then◌else◌, nat_lt, get_or, zero, suc, ◌≡◌, Option, Some, None, Result, Ok, Err}
 use Rattle.json_spans.specs.declared.fault.JsonFault.{JsonFault}
 use Rattle.json_spans.specs.declared.fault.JsonFault.TheVariants.{Syntax, Deep}
+use Rattle.json_spans.specs.declared.machine.TheConstants.{MAX_DEPTH}
 use Rattle.json_spans.specs.Table.{step, back, is_number_end}
 use Rattle.json_spans.specs.declared.table.Mode.{Mode}
 use Rattle.json_spans.specs.declared.table.Mode.TheVariants as mode
@@ -76,7 +77,7 @@ run limit n m naming s (x ∷ xs) = react limit (n - suc (length xs)) (n - lengt
 
 -- the value that begins behind white space at p
 abbrev pub value_at : ℕ → List ℕ → Outcome
-value_at p xs = run 127 (p + length xs) mode.Value false [] xs
+value_at p xs = run MAX_DEPTH (p + length xs) mode.Value false [] xs
 
 -- the brackets among the first n of an array, the innermost first
 unfoldable pub stack_of : List Bool → ℕ → Stack

@@ -4,6 +4,7 @@ ghost use Rattle.json_spans.specs.Parts.{kind_of};
 ghost use Rattle.json_spans.specs.Span.{part_of, pair_of};
 ghost use Rattle.json_spans.specs.Inside.{AreMembersOf, ObjectFault, RepeatFault, Differ, no_pair};
 ghost use Rattle.json_spans.specs.Names.{Distinct, Twice, AreNames, HaveNames};
+ghost use Rattle.json_spans.specs.declared.object.TheConstants.{MAX_MEMBERS};
 
 use crate::fault::JsonFault;
 use crate::kind::Kind;
@@ -80,7 +81,7 @@ fn check_names(alloc: Global, pairs: &[(Span<'_>, Span<'_>)]) -> Result<(), Json
 pub fn members<'a>(alloc: Global, span: Span<'a>) -> Result<MemberList<'a>, JsonFault>
     requires { kind_of (part_of span).bytes ≡ Kind.Object }
     ensures ok { IfOk result (AreMembersOf (part_of span.entry)) }
-    ensures few { IfOk result (λ l. length l ≤ 1024) }
+    ensures few { IfOk result (λ l. length l ≤ MAX_MEMBERS) }
     ensures differ { IfOk result (λ l. Differ l (length l)) }
     ensures refused { IfErr result (ObjectFault (part_of span.entry)) }
 {

@@ -13,7 +13,8 @@ use crate::whole::spaces_end;
 use grid_types::NoMemory;
 use std::alloc::Global;
 
-const MAX_MEMBERS: usize = 1024;
+/// How many members an object may have whose members are handed out.
+pub const MAX_MEMBERS: usize = 1_024;
 
 fn keep_pair<'a>(
     found: &mut Vec<(Span<'a>, Span<'a>)>,
@@ -33,7 +34,7 @@ fn keep_pair<'a>(
 pub(crate) fn all_members<'a>(alloc: Global, span: Span<'a>) -> Result<MemberList<'a>, JsonFault>
     requires { kind_of (part_of span).bytes ≡ Kind.Object }
     ensures ok { IfOk result (AreMembersOf (part_of span.entry)) }
-    ensures few { IfOk result (λ l. length l ≤ 1024) }
+    ensures few { IfOk result (λ l. length l ≤ MAX_MEMBERS) }
     ensures refused { IfErr result (ObjectFault (part_of span.entry)) }
 {
     let bytes = span.bytes;

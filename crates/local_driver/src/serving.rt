@@ -17,7 +17,7 @@ ghost use Rattle.local_driver.specs.Serving.{EndedSo, FallsTo, HasServed, Servin
 
 use crate::before::begin;
 use crate::calls::make;
-use grid_outside::{Clock, Link, NodeLink};
+use grid_outside::{Clock, Link, NodeLink, PIECE_BYTES};
 use grid_types::NodeNo;
 use hub_conn::{
     Answer, ConnFault, Served, Talk, Want, calls_are_rightful, conversations_find_spent_last,
@@ -27,9 +27,6 @@ use hub_core::LocalHub;
 use hub_links::{read_piece, write_some};
 use start_laws::{calls_keep_the_newest_request, polls_are_early, starts_run_out};
 use std::alloc::Global;
-
-/// How many bytes are read at once, at most.
-const BUFFER: usize = 65_536;
 
 /// The history of a hub is legal.
 fn is_legal(hub: &LocalHub)
@@ -140,7 +137,7 @@ fn serve_to_end<L: Link, N: NodeLink, C: Clock>(
     ensures same { L.Same link.old link.new }
 {
     let mut talk = Talk::new(alloc);
-    let mut buffer = [0; BUFFER];
+    let mut buffer = [0; PIECE_BYTES];
     'turns: loop {
         let ended = turn(alloc, hub, own, &mut talk, &mut buffer, link, nodes, clock);
         if let Some(result) = ended {

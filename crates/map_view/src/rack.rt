@@ -25,13 +25,14 @@ impl Model for Rack {
     ghost use Rattle.std.specs.Prelude.{◌≡◌, List};
     ghost use Rattle.std.specs.Vec.{vec_capacity};
     ghost use Rattle.map_view.specs.declared.sheet.Row.{Row};
+    ghost use Rattle.map_view.specs.declared.sheet.TheConstants.{ROOM};
     ghost use Rattle.map_view.specs.Racks.{IsRack, laid};
 
     ghost Value = { List Row };
 
     ghost view = { λ r. laid r.rows.items r.order.items };
 
-    ghost invariant = { λ r. IsRack r.rows.items r.order.items r.free.items × (vec_capacity r.rows ≡ 65_536) × (vec_capacity r.order ≡ 65_536) × (vec_capacity r.free ≡ 65_536) };
+    ghost invariant = { λ r. IsRack r.rows.items r.order.items r.free.items × (vec_capacity r.rows ≡ ROOM) × (vec_capacity r.order ≡ ROOM) × (vec_capacity r.free ≡ ROOM) };
 }
 
 fn comes_before<'x>(one: &'x [u8], other: &'x [u8]) -> bool
@@ -42,11 +43,11 @@ fn comes_before<'x>(one: &'x [u8], other: &'x [u8]) -> bool
 
 /// Puts the row at a place that was free, or at a new one.
 fn place_for(rows: &mut Vec<Row>, free: &mut Vec<u32>, row: Row) -> u32
-    requires room { vec_capacity rows.old ≡ 65_536 }
-    requires few { length free.old.items ≡ 0 → length rows.old.items < 65_536 }
+    requires room { vec_capacity rows.old ≡ ROOM }
+    requires few { length free.old.items ≡ 0 → length rows.old.items < ROOM }
     requires inside { (p : ℕ) → 0 < times p free.old.items → p < length rows.old.items }
     ensures places { (order : List ℕ) → IsRack rows.old.items order free.old.items → Places rows.old.items rows.new.items order result row free.new.items }
-    ensures room { (vec_capacity rows.new ≡ 65_536) × (vec_capacity free.new ≡ vec_capacity free.old) }
+    ensures room { (vec_capacity rows.new ≡ ROOM) × (vec_capacity free.new ≡ vec_capacity free.old) }
 {
     match free.pop() {
         Some(place) => {
@@ -107,7 +108,7 @@ impl Rack {
     }
 
     pub(crate) fn insert(&mut self, index: usize, row: Row)
-        requires { (index ≤ length self.old) × (length self.old < 65_536) }
+        requires { (index ≤ length self.old) × (length self.old < ROOM) }
         ensures { self.new ≡ insert self.old index row }
     {
         let place = place_for(&mut self.rows, &mut self.free, row);

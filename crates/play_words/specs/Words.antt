@@ -1,6 +1,7 @@
 -- What the words of a play say.
 use Rattle.std.specs.Prelude.{◌≡◌, ℕ, ◌≤◌, List, [], ◌∷◌, ◌++◌, length, Option, codes, decimal}
 use Rattle.grid_types.specs.declared.config.HubConfig.{HubConfig}
+use Rattle.grid_types.specs.declared.limits.TheConstants.{MOST_SLOTS}
 use Rattle.grid_types.specs.Config.{default_config}
 use Rattle.play_words.specs.declared.play.PlayNode.{PlayNode}
 use Rattle.play_words.specs.Node.{IsNode}
@@ -11,7 +12,7 @@ pub record SaysNode (word slots : List ℕ) (node : PlayNode) : Type 0 where
   pub word_is : IsNode word node.browser node.version node.refuses
   pub slots_are : slots ≡ decimal node.slots
   pub least : 1 ≤ node.slots
-  pub most : node.slots ≤ 64
+  pub most : node.slots ≤ MOST_SLOTS
 
 -- and so on
 abbrev pub SaysNodes : List (List ℕ) → List PlayNode → Type 0

@@ -6,7 +6,7 @@ ghost use Rattle.play_words.specs.Words.{SaysNode, SaysNodes};
 use crate::node::node_of;
 use crate::number::number_of;
 use crate::play::{PlayNode, PlayNodes, WordsFault};
-use grid_types::Text;
+use grid_types::{MOST_SLOTS, Text};
 use std::alloc::Global;
 
 fn read_node(alloc: Global, word: &str, slots: &str) -> Result<PlayNode, WordsFault>
@@ -17,7 +17,7 @@ fn read_node(alloc: Global, word: &str, slots: &str) -> Result<PlayNode, WordsFa
     let Some(said) = node_of(word) else {
         return Err(WordsFault::Refused);
     };
-    let Some(slots) = number_of(slots, 64) else {
+    let Some(slots) = number_of(slots, MOST_SLOTS) else {
         return Err(WordsFault::Refused);
     };
     Ok(PlayNode {
@@ -34,7 +34,7 @@ fn is_node(word: &str, slots: &str) -> bool
     ensures none { result ≡ false → (node : PlayNode) → ¬ SaysNode word.now slots.now node }
 {
     match node_of(word) {
-        Some(_said) => match number_of(slots, 64) {
+        Some(_said) => match number_of(slots, MOST_SLOTS) {
             Some(_count) => true,
             None => false,
         },

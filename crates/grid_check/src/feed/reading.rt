@@ -5,11 +5,8 @@ ghost use Rattle.grid_check.specs.Feeds.{waiting, Reads, HasMore};
 
 use crate::feed::Feed;
 use crate::verdict::CheckFault;
-use grid_outside::Source;
+use grid_outside::{PIECE_BYTES, Source};
 use std::alloc::Global;
-
-/// How many bytes are asked for at once.
-const PIECE_BYTES: usize = 65_536;
 
 /// The most bytes that are read.
 const MOST_BYTES: u64 = 1 << 40;

@@ -2,6 +2,7 @@
 ghost use Rattle.std.specs.Prelude.{◌≡◌, ◌≤◌, ℕ, length, true, Some, OnOk, IfOk};
 ghost use Rattle.std.specs.Option.{option_copied};
 ghost use Rattle.grid_types.specs.declared.entry.Change.TheVariants as change;
+ghost use Rattle.grid_types.specs.declared.limits.TheConstants.{MOST_SLOTS};
 ghost use Rattle.grid_types.specs.Bindings.{bound_slot};
 ghost use Rattle.grid_types.specs.Nodes.{address_of, is_registered, stereotypes};
 ghost use Rattle.grid_types.specs.Sessions.{is_live};
@@ -21,7 +22,7 @@ impl GridLedger {
         registration: &Registration,
         at: Moment,
     ) -> Result<(), NoMemory>
-        requires { length (stereotypes registration.now.groups) ≤ 64 }
+        requires { length (stereotypes registration.now.groups) ≤ MOST_SLOTS }
         ensures { OnOk result ((caller : ℕ) → Notes self.old self.new caller (change.Registered node registration.now at)) }
     {
         // For the proof alone: what takes no change of this kind stays as it is.

@@ -8,15 +8,12 @@ ghost use Rattle.grid_types.specs.Permitted.{is_drain_count, is_name_taken, is_w
 ghost use Rattle.grid_ledger.specs.LedgerStands.{LedgerTells, MayNote};
 
 use crate::ledger::GridLedger;
-use grid_types::{MOST_DRAIN_AFTER, Moment, NodeNo, Registration, SlotGroup, Text};
+use grid_types::{
+    MOST_DRAIN_AFTER, MOST_NODES, MOST_SESSIONS, MOST_SLOTS, Moment, NodeNo, Registration,
+    SlotGroup, Text,
+};
 use hub_walks::listed_count;
 use moment_rules::{lapsed, silent};
-
-/// The most nodes that are listed.
-const MOST_NODES: usize = 1_024;
-
-/// The most slots of a node, and the most sessions that it takes at once.
-const MOST_SLOTS: u64 = 64;
 
 /// How many slots the groups have in all, or the type's end where they have more.
 fn slot_count(groups: &[SlotGroup]) -> u64
@@ -42,14 +39,14 @@ fn is_drain_count(count: Option<u32>) -> bool
 /// limits, where it has one.
 fn is_well_sized(node: &Registration) -> bool
     ensures sized { result ≡ is_well_sized node.now }
-    ensures few { result ≡ true → length (stereotypes node.now.groups) ≤ 64 }
+    ensures few { result ≡ true → length (stereotypes node.now.groups) ≤ MOST_SLOTS }
 {
     let slots = slot_count(node.groups.items());
     let sessions = u64::from(node.max_sessions);
     slots >= 1
-        && slots <= MOST_SLOTS
+        && slots <= MOST_SLOTS as u64
         && sessions >= 1
-        && sessions <= MOST_SLOTS
+        && sessions <= MOST_SESSIONS as u64
         && is_drain_count(node.drain_after)
 }
 
@@ -68,7 +65,7 @@ impl GridLedger {
 
     /// Whether one more node may be listed.
     fn has_place(&self) -> bool
-        ensures { LedgerTells self.now (λ H. result ≡ nat_lt (length (listed H)) 1_024) }
+        ensures { LedgerTells self.now (λ H. result ≡ nat_lt (length (listed H)) MOST_NODES) }
     {
         listed_count(&self.nodes, &self.slots) < MOST_NODES
     }
@@ -102,7 +99,7 @@ impl GridLedger {
         at: Moment,
     ) -> bool
         ensures exact { (caller : ℕ) → LedgerTells self.now (λ H. result ≡ permitted self.now.config H caller (change.Registered node registration.now at)) }
-        ensures few { result ≡ true → length (stereotypes registration.now.groups) ≤ 64 }
+        ensures few { result ≡ true → length (stereotypes registration.now.groups) ≤ MOST_SLOTS }
     {
         self.is_current(at)
             && self.is_next_node(node)

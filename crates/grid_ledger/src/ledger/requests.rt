@@ -13,7 +13,10 @@ ghost use Rattle.hub_walks.specs.First.{as_chosen};
 ghost use Rattle.grid_ledger.specs.LedgerStands.{LedgerTells};
 
 use crate::ledger::GridLedger;
-use grid_types::{Caps, Choices, Moment, ReqNo, SlotId, request_bytes, time_to_wait};
+use grid_types::{
+    Caps, Choices, LAST_MOMENT, MOST_CHOICES, MOST_QUEUE_BYTES, Moment, ReqNo, SlotId,
+    request_bytes, time_to_wait,
+};
 use hub_walks::Assignment;
 use moment_rules::overdue;
 use node_registry::NodeTable;
@@ -22,15 +25,6 @@ use session_queue::RequestTable;
 use slot_match::Steps;
 use std::marker::Brand;
 use std::sync::ledger::{Blank, Ledger};
-
-/// The most bytes of the choices of all requests that wait or are held.
-const MOST_BYTES: u64 = 268_435_456;
-
-/// The last moment that a deadline may be.
-const LAST_MOMENT: u64 = (1 << 62) - 1;
-
-/// The most choices of a request.
-const MOST_CHOICES: usize = 64;
 
 fn counted_support<L: Ledger>(nodes: &NodeTable, choices: &[Caps], blank: Blank) -> bool
     requires name { blank.name ≡ L.name }
@@ -90,7 +84,7 @@ impl GridLedger {
         ensures { LedgerTells self.now (λ H. result ≡ has_room self.now.config H choices.now) }
     {
         self.requests.unsettled() < self.config.queue_requests
-            && self.requests.bytes().saturating_add(request_bytes(choices)) <= MOST_BYTES
+            && self.requests.bytes().saturating_add(request_bytes(choices)) <= MOST_QUEUE_BYTES
     }
 
     /// Whether the choices may be queued: each may, or a slot of a registered node matches one.
