@@ -4,6 +4,7 @@ use Rattle.std.specs.Char.{is_ascii_alphanumeric}
 use Rattle.std.specs.List.{list_all}
 use Rattle.clap.specs.Words.{App, IsAmong, Row, Text, fault_of, first_of, kind_of, matches_of, with_rule}
 use Rattle.grid_types.specs.Names.{is_node_address}
+use Rattle.grid_types.specs.declared.limits.TheConstants.{MOST_NAME_BYTES, MOST_SLOTS}
 use Rattle.server_words.specs.Options.{IsTaken, bare, number_of, number_or, text_of, text_or}
 use Rattle.server_words.specs.declared.attach.AttachFault.{AttachFault}
 use Rattle.server_words.specs.declared.attach.AttachFault.TheVariants as fault
@@ -19,7 +20,7 @@ attach_command =
     (text_of (codes "browser")))
     (text_of (codes "browser-version")))
     (text_of (codes "platform")))
-    (number_of (codes "slots") 1 64)
+    (number_of (codes "slots") 1 MOST_SLOTS)
 
 -- what each option with a text is set to, and what it is by default
 abbrev pub attach_hub : List Row → List ℕ
@@ -62,9 +63,9 @@ is_label_byte b = is_ascii_alphanumeric b || b == 45 || b == 95 || b == 46
 abbrev pub are_label_bytes : List ℕ → Bool
 are_label_bytes bytes = list_all is_label_byte bytes
 
--- at most 64 bytes
+-- no longer than a node's name may be
 abbrev pub is_short : List ℕ → Bool
-is_short bytes = nat_le (length bytes) 64
+is_short bytes = nat_le (length bytes) MOST_NAME_BYTES
 
 -- a node's name as a hub takes it: 1 to 64 letters, digits, '-', '_' and '.'
 abbrev pub is_label : List ℕ → Bool

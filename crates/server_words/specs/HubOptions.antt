@@ -3,6 +3,7 @@ use Rattle.std.specs.Prelude.{◌*◌, ◌≤◌, List, codes, false}
 use Rattle.clap.specs.Words.{App, Row, Text, first_of, matches_of, with_rule}
 use Rattle.grid_types.specs.Config.{default_config}
 use Rattle.grid_types.specs.declared.config.HubConfig.{HubConfig}
+use Rattle.grid_types.specs.declared.limits.TheConstants.{MOST_REQUESTS}
 use Rattle.server_words.specs.Options.{bare, number_of, number_or, truth_of, truth_or}
 use Rattle.server_words.specs.declared.hub.HubWords.{HubWords}
 
@@ -14,7 +15,7 @@ hub_command =
     (number_of (codes "session-request-timeout") 1 86_400))
     (number_of (codes "session-timeout") 10 86_400))
     (truth_of (codes "reject-unsupported-caps")))
-    (number_of (codes "queue-limit") 1 10_000))
+    (number_of (codes "queue-limit") 1 MOST_REQUESTS))
     (number_of (codes "handlers") 1 128))
     (number_of (codes "workers") 0 64)
 
@@ -23,7 +24,7 @@ abbrev pub config_told : List Row → HubConfig
 config_told rows = record default_config {
   timeout_ms = number_or 300 (first_of (codes "session-request-timeout") rows) * 1_000;
   idle_ms = number_or 300 (first_of (codes "session-timeout") rows) * 1_000;
-  queue_requests = number_or 10_000 (first_of (codes "queue-limit") rows);
+  queue_requests = number_or MOST_REQUESTS (first_of (codes "queue-limit") rows);
   reject_unsupported = truth_or false (first_of (codes "reject-unsupported-caps") rows);
 }
 

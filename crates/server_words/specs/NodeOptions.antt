@@ -2,6 +2,7 @@
 use Rattle.std.specs.Prelude.{◌≡◌, ℕ, List, codes, true}
 use Rattle.clap.specs.Words.{App, Row, Text, first_of, matches_of, with_rule}
 use Rattle.grid_types.specs.Names.{is_node_address}
+use Rattle.grid_types.specs.declared.limits.TheConstants.{MOST_SLOTS}
 use Rattle.server_words.specs.Options.{IsTaken, bare, number_of, number_or, text_of, text_or}
 use Rattle.server_words.specs.declared.node.NodeWords.{NodeWords}
 
@@ -13,7 +14,7 @@ node_command =
     (number_of (codes "port") 1 65_535))
     (text_of (codes "name")))
     (text_of (codes "browser")))
-    (number_of (codes "slots") 1 64)
+    (number_of (codes "slots") 1 MOST_SLOTS)
 
 -- the hub's address as the words found write it
 abbrev pub hub_address : List Row → List ℕ

@@ -9,7 +9,7 @@ ghost use Rattle.server_words.specs.declared.attach.AttachFault.TheVariants as f
 use crate::options::{matched, number, number_option, text, text_option, texts};
 use clap::error::ErrorKind;
 use clap::{ArgMatches, Command, Error};
-use grid_types::{NoMemory, NodeAddress, Text};
+use grid_types::{MOST_NAME_BYTES, MOST_SLOTS, NoMemory, NodeAddress, Text};
 use std::alloc::{AllocError, Global};
 use std::fmt;
 
@@ -24,9 +24,6 @@ usage: grid_attach [OPTION VALUE]...
   --platform NAME             platform of its slots (linux)
   --slots COUNT               sessions at once, 1 to 64 (1)
 ";
-
-/// The most bytes of a node's name, and of what is told of its browser.
-const MOST_BYTES: usize = 64;
 
 /// What the words say.
 #[derive(Debug, Drop)]
@@ -113,7 +110,7 @@ fn command<'a>(alloc: Global) -> Result<Command<'a>, AllocError>
     let four = three.arg(text_option(alloc, "browser"))?;
     let five = four.arg(text_option(alloc, "browser-version"))?;
     let six = five.arg(text_option(alloc, "platform"))?;
-    let seven = six.arg(number_option(alloc, "slots", 1, 64))?;
+    let seven = six.arg(number_option(alloc, "slots", 1, MOST_SLOTS))?;
     Ok(seven)
 }
 
@@ -123,10 +120,11 @@ fn are_label_bytes(bytes: &[u8]) -> bool
     bytes.iter().all(|b| b.is_ascii_alphanumeric() || *b == b'-' || *b == b'_' || *b == b'.')
 }
 
+/// Whether the text is no longer than a node's name may be.
 fn is_short(text: &str) -> bool
     ensures { result ≡ is_short text.now }
 {
-    text.len() <= MOST_BYTES
+    text.len() <= MOST_NAME_BYTES
 }
 
 /// Whether a hub takes the text as a node's name.

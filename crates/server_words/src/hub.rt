@@ -10,7 +10,7 @@ use crate::options::{
     WordsFault, found, matched, number, number_option, reason_of, texts, truth, truth_option,
 };
 use clap::{ArgMatches, Command, Error};
-use grid_types::{HubConfig, Text};
+use grid_types::{HubConfig, MOST_REQUESTS, Text};
 use std::alloc::{AllocError, Global};
 
 /// How `grid_hub` is called.
@@ -46,7 +46,7 @@ fn command<'a>(alloc: Global) -> Result<Command<'a>, AllocError>
     let two = one.arg(number_option(alloc, "session-request-timeout", 1, 86_400))?;
     let three = two.arg(number_option(alloc, "session-timeout", 10, 86_400))?;
     let four = three.arg(truth_option(alloc, "reject-unsupported-caps"))?;
-    let five = four.arg(number_option(alloc, "queue-limit", 1, 10_000))?;
+    let five = four.arg(number_option(alloc, "queue-limit", 1, MOST_REQUESTS))?;
     let six = five.arg(number_option(alloc, "handlers", 1, 128))?;
     let seven = six.arg(number_option(alloc, "workers", 0, 64))?;
     Ok(seven)
@@ -60,7 +60,7 @@ fn config(matches: &ArgMatches<'_>) -> HubConfig
     HubConfig {
         timeout_ms: u64::from(number(matches, "session-request-timeout", 300)) * 1_000,
         idle_ms: u64::from(number(matches, "session-timeout", 300)) * 1_000,
-        queue_requests: number(matches, "queue-limit", 10_000),
+        queue_requests: number(matches, "queue-limit", MOST_REQUESTS),
         reject_unsupported: truth(matches, "reject-unsupported-caps", false),
         ..HubConfig::default()
     }

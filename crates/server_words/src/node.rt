@@ -10,7 +10,7 @@ use crate::options::{
     WordsFault, found, matched, number, number_option, reason_of, text, text_option, texts,
 };
 use clap::{ArgMatches, Command, Error};
-use grid_types::{NodeAddress, Text};
+use grid_types::{MOST_SLOTS, NodeAddress, Text};
 use std::alloc::{AllocError, Global};
 
 /// How `grid_node` is called.
@@ -46,7 +46,7 @@ fn command<'a>(alloc: Global) -> Result<Command<'a>, AllocError>
     let two = one.arg(number_option(alloc, "port", 1, 65_535))?;
     let three = two.arg(text_option(alloc, "name"))?;
     let four = three.arg(text_option(alloc, "browser"))?;
-    let five = four.arg(number_option(alloc, "slots", 1, 64))?;
+    let five = four.arg(number_option(alloc, "slots", 1, MOST_SLOTS))?;
     Ok(five)
 }
 
