@@ -9,13 +9,14 @@ use Rattle.caps_merge.specs.declared.registering.fault.RegFault.TheVariants as r
 use Rattle.caps_merge.specs.declared.registering.fault.RegField.{RegField}
 use Rattle.caps_merge.specs.declared.registering.fault.RegField.TheVariants as field
 use Rattle.http_frames.specs.declared.FrameFault.{FrameFault}
-use Rattle.http_frames.specs.declared.FrameFault.TheVariants as frame
+use Rattle.http_frames.specs.Faults.{fault_text}
 use Rattle.grid_types.specs.declared.entry.FailWhy.{FailWhy}
 use Rattle.grid_types.specs.declared.entry.FailWhy.TheVariants as why
 use Rattle.grid_types.specs.declared.entry.Outcome.{Outcome}
 use Rattle.grid_types.specs.declared.entry.Outcome.TheVariants as outcome
 use Rattle.grid_types.specs.Calls.{Reply}
 use Rattle.wd_bodies.specs.declared.code.ErrorCode.TheVariants as code
+use Rattle.wd_bodies.specs.declared.messages.TheConstants.{NO_COMMAND, NO_METHOD, NO_NODE, NO_SESSION, NO_SLOT_MATCHES, NODE_NOT_HTTP, NODE_UNREACHABLE, NUMBERS_SPENT}
 use Rattle.hub_status.specs.Status.{status_bytes}
 use Rattle.hub_status.specs.Queue.{queue_bytes}
 use Rattle.conn_script.specs.Responses.{Response, created, own, success, failure}
@@ -23,29 +24,20 @@ use Rattle.conn_script.specs.Responses.{Response, created, own, success, failure
 -- ---- no call is made
 
 abbrev pub unknown_command : Response
-unknown_command = failure code.UnknownCommand (codes "no command has this path")
+unknown_command = failure code.UnknownCommand NO_COMMAND.now
 
 abbrev pub unknown_method : Response
-unknown_method = failure code.UnknownMethod (codes "this path has no such method")
+unknown_method = failure code.UnknownMethod NO_METHOD.now
 
 abbrev pub no_such_session : Response
-no_such_session = failure code.InvalidSessionId (codes "no such session")
+no_such_session = failure code.InvalidSessionId NO_SESSION.now
 
 abbrev pub no_such_node : Response
-no_such_node = failure code.InvalidArgument (codes "no registered node has this number")
+no_such_node = failure code.InvalidArgument NO_NODE.now
 
 -- why a request was refused
-abbrev pub fault_text : FrameFault → List ℕ
-fault_text frame.BadHead = codes "head"
-fault_text frame.HeadTooLong = codes "head too long"
-fault_text frame.BadLength = codes "length"
-fault_text frame.BothLengths = codes "both lengths"
-fault_text frame.BadChunk = codes "chunk"
-fault_text frame.BodyTooLong = codes "body too long"
-fault_text frame.OtherCoding = codes "coding"
-
 abbrev pub refusal : FrameFault → Response
-refusal fault = failure code.InvalidArgument (codes "bad request: " ++ fault_text fault)
+refusal fault = failure code.InvalidArgument (fault_text fault)
 
 -- a place in a body, counted in bytes from 0; out of memory is answered by no response
 abbrev pub json_fault_text : JsonFault → List ℕ
@@ -97,12 +89,12 @@ reg_refusal fault = failure code.InvalidArgument (reg_fault_text fault)
 -- ---- a reply of the hub that ends its script
 
 abbrev pub numbers_are_spent : Response
-numbers_are_spent = failure code.UnknownError (codes "numbers are spent")
+numbers_are_spent = failure code.UnknownError NUMBERS_SPENT.now
 
 -- to a new request that the hub did not queue
 abbrev pub enqueue_refusal : Reply → Option Response
 enqueue_refusal Reply.numbers_spent = Some numbers_are_spent
-enqueue_refusal Reply.unsupported = Some (failure code.SessionNotCreated (codes "no registered slot matches"))
+enqueue_refusal Reply.unsupported = Some (failure code.SessionNotCreated NO_SLOT_MATCHES.now)
 enqueue_refusal (Reply.queue_full count bytes) =
     Some (failure code.SessionNotCreated (codes "queue is full: " ++ (decimal count ++ (codes " requests, " ++ (decimal bytes ++ codes " bytes")))))
 enqueue_refusal reply = None
@@ -137,8 +129,8 @@ queue_response reply = None
 -- why a start failed
 abbrev pub why_text : FailWhy → List ℕ
 why_text (why.NodeRefused words) = words
-why_text why.Unreachable = codes "node is unreachable"
-why_text why.NotHttp = codes "node's reply is not HTTP"
+why_text why.Unreachable = NODE_UNREACHABLE.now
+why_text why.NotHttp = NODE_NOT_HTTP.now
 why_text why.BadReply = codes "node's reply names no session"
 why_text why.Mismatch = codes "node's capabilities do not match"
 why_text why.NodeGone = codes "node is gone"
@@ -156,7 +148,7 @@ outcome_response request outcome.Cleared = failure code.SessionNotCreated (codes
 -- ---- an exchange with a node
 
 abbrev pub node_unreachable : Response
-node_unreachable = failure code.UnknownError (codes "node is unreachable")
+node_unreachable = failure code.UnknownError NODE_UNREACHABLE.now
 
 abbrev pub node_not_http : Response
-node_not_http = failure code.UnknownError (codes "node's reply is not HTTP")
+node_not_http = failure code.UnknownError NODE_NOT_HTTP.now

@@ -2,10 +2,13 @@
 use Rattle.std.specs.Prelude.{ℕ, Bool, true, false, if◌then◌else◌, List, [], ◌++◌, length, codes, decimal, unwrap_or, Option, None, Some}
 use Rattle.http.specs.StatusCode.{reason_phrase}
 use Rattle.http_frames.specs.declared.replies.NodeReply.{NodeReply}
+use Rattle.http_frames.specs.declared.writing.TheConstants.{CONTINUE}
 use Rattle.http_frames.specs.Writing.{field_line, length_line, has_no_body}
 use Rattle.grid_types.specs.declared.capabilities.Cap.{Cap}
 use Rattle.wd_bodies.specs.declared.code.ErrorCode.{ErrorCode}
 use Rattle.wd_bodies.specs.declared.code.ErrorCode.TheVariants as code
+use Rattle.wd_bodies.specs.declared.headers.TheConstants.{JSON_TYPE, NO_CACHE}
+use Rattle.wd_bodies.specs.declared.messages.TheConstants.{HUB_SPENT}
 use Rattle.wd_bodies.specs.Codes.{code_status}
 use Rattle.wd_bodies.specs.Bodies.{created_bytes, error_bytes, value_bytes}
 
@@ -54,14 +57,14 @@ response_text status reason content_type content_encoding cache_control body clo
 -- one with a JSON body of the hub
 abbrev pub json_text : ℕ → List ℕ → Bool → List ℕ
 json_text status body close =
-    response_text status (unwrap_or (reason_phrase status) []) (Some (codes "application/json; charset=utf-8")) None (Some (codes "no-cache")) body close
+    response_text status (unwrap_or (reason_phrase status) []) (Some JSON_TYPE.now) None (Some NO_CACHE.now) body close
 
 -- what a node replied, passed on
 abbrev pub passed_text : NodeReply → Bool → List ℕ
 passed_text r close = response_text r.status r.reason r.content_type r.content_encoding r.cache_control r.body close
 
 abbrev pub spent_text : List ℕ
-spent_text = json_text (code_status code.UnknownError) (error_bytes code.UnknownError (codes "hub is spent")) true
+spent_text = json_text (code_status code.UnknownError) (error_bytes code.UnknownError HUB_SPENT.now) true
 
 -- the bytes of a response; whether the connection ends after its request
 abbrev pub bytes_of : Response → Bool → List ℕ
@@ -73,4 +76,4 @@ bytes_of hub_spent close = spent_text
 -- the interim response to a client that waits with its body (RFC 9110 §15.2.1)
 abbrev pub continue_text : Bool → List ℕ
 continue_text false = []
-continue_text true = codes "HTTP/1.1 100 Continue\r\n\r\n"
+continue_text true = CONTINUE.now

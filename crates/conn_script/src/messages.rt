@@ -1,28 +1,13 @@
 //! Errors in words.
 ghost use Rattle.std.specs.Prelude.{◌≡◌, IfOk, string_bytes};
 ghost use Rattle.caps_merge.specs.declared.fault.CapsFault.TheVariants as caps;
-ghost use Rattle.conn_script.specs.Messages.{fault_text, list_name, json_fault_text, caps_fault_text, field_word, reg_fault_text, why_text};
+ghost use Rattle.conn_script.specs.Messages.{list_name, json_fault_text, caps_fault_text, field_word, reg_fault_text, why_text};
 
 use caps_merge::{CapsFault, RegFault, RegField};
 use grid_types::{FailWhy, NoMemory};
-use http_frames::FrameFault;
 use json_spans::JsonFault;
 use std::alloc::Global;
-
-/// Why a request was refused.
-pub fn fault_text(fault: FrameFault) -> &'static str
-    ensures { result.now ≡ fault_text fault }
-{
-    match fault {
-        FrameFault::BadHead => "head",
-        FrameFault::HeadTooLong => "head too long",
-        FrameFault::BadLength => "length",
-        FrameFault::BothLengths => "both lengths",
-        FrameFault::BadChunk => "chunk",
-        FrameFault::BodyTooLong => "body too long",
-        FrameFault::OtherCoding => "coding",
-    }
-}
+use wd_bodies::{NODE_NOT_HTTP, NODE_UNREACHABLE};
 
 fn json_fault_text(alloc: Global, fault: &JsonFault) -> Result<String, NoMemory>
     ensures { IfOk result (λ s. string_bytes s ≡ json_fault_text fault.now) }
@@ -130,8 +115,8 @@ pub fn why_text(why: &FailWhy) -> &str
 {
     match why {
         FailWhy::NodeRefused(words) => words.as_str(),
-        FailWhy::Unreachable => "node is unreachable",
-        FailWhy::NotHttp => "node's reply is not HTTP",
+        FailWhy::Unreachable => NODE_UNREACHABLE,
+        FailWhy::NotHttp => NODE_NOT_HTTP,
         FailWhy::BadReply => "node's reply names no session",
         FailWhy::Mismatch => "node's capabilities do not match",
         FailWhy::NodeGone => "node is gone",

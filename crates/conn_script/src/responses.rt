@@ -10,14 +10,18 @@ ghost use Rattle.conn_script.specs.Messages as words;
 ghost use Rattle.conn_script.specs.Build.{Responds};
 ghost use Rattle.grid_outside.specs.Exchanges.{lent as lent_value};
 
-use crate::messages::{caps_fault_text, fault_text, reg_fault_text, why_text};
+use crate::messages::{caps_fault_text, reg_fault_text, why_text};
 use caps_merge::{CapsFault, RegFault};
 use grid_types::{Bytes, FailWhy, NoMemory, NodeNo, Outcome, ReqNo, View};
-use http_frames::{FrameFault, NodeReply, ReplyHeaders, write_response};
+use http_frames::{FrameFault, NodeReply, ReplyHeaders, fault_text, write_response};
 use hub_core::{Enqueued, Registering};
 use hub_status::{queue_body, status_body};
 use std::alloc::Global;
-use wd_bodies::{ErrorCode, created_body, error_body, phrase_of, status_of, value_body};
+use wd_bodies::{
+    ErrorCode, HUB_SPENT, JSON_TYPE, NO_CACHE, NO_COMMAND, NO_METHOD, NO_NODE, NO_SESSION,
+    NO_SLOT_MATCHES, NODE_NOT_HTTP, NODE_UNREACHABLE, NUMBERS_SPENT, created_body, error_body,
+    phrase_of, status_of, value_body,
+};
 
 /// A response with a JSON body of the hub.
 #[tactic(auto, unfolding(crate::specs::Responses::response_text))]
@@ -26,9 +30,9 @@ fn json(alloc: Global, status: u16, body: &[u8], close: bool) -> Result<Bytes, N
     ensures { IfOk result (λ bytes. bytes ≡ texts.json_text status body.now close) }
 {
     let headers = ReplyHeaders {
-        content_type: Some(b"application/json; charset=utf-8"),
+        content_type: Some(JSON_TYPE),
         content_encoding: None,
-        cache_control: Some(b"no-cache"),
+        cache_control: Some(NO_CACHE),
     };
     let reason = phrase_of(status).as_bytes();
     write_response(alloc, status, reason, headers, body, close)
@@ -59,59 +63,42 @@ pub fn success(alloc: Global, value: &str, close: bool) -> Result<Bytes, NoMemor
 pub fn hub_spent(alloc: Global) -> Result<Bytes, NoMemory>
     ensures { IfOk result (λ bytes. bytes ≡ texts.bytes_of texts.hub_spent false) }
 {
-    failure(alloc, ErrorCode::UnknownError, "hub is spent", true)
+    failure(alloc, ErrorCode::UnknownError, HUB_SPENT, true)
 }
 
 /// The response where no row of the table has the path (WebDriver §6.6).
 pub fn unknown_command(alloc: Global, close: bool) -> Result<Bytes, NoMemory>
     ensures { IfOk result (λ bytes. bytes ≡ texts.bytes_of words.unknown_command close) }
 {
-    failure(
-        alloc,
-        ErrorCode::UnknownCommand,
-        "no command has this path",
-        close,
-    )
+    failure(alloc, ErrorCode::UnknownCommand, NO_COMMAND, close)
 }
 
 /// The response where the path's row has another method (WebDriver §6.6).
 pub fn unknown_method(alloc: Global, close: bool) -> Result<Bytes, NoMemory>
     ensures { IfOk result (λ bytes. bytes ≡ texts.bytes_of words.unknown_method close) }
 {
-    failure(
-        alloc,
-        ErrorCode::UnknownMethod,
-        "this path has no such method",
-        close,
-    )
+    failure(alloc, ErrorCode::UnknownMethod, NO_METHOD, close)
 }
 
 /// The response where no session of the id is live (WebDriver §6.6).
 pub fn no_such_session(alloc: Global, close: bool) -> Result<Bytes, NoMemory>
     ensures { IfOk result (λ bytes. bytes ≡ texts.bytes_of words.no_such_session close) }
 {
-    failure(alloc, ErrorCode::InvalidSessionId, "no such session", close)
+    failure(alloc, ErrorCode::InvalidSessionId, NO_SESSION, close)
 }
 
 /// The response where no registered node has the number.
 pub fn no_such_node(alloc: Global, close: bool) -> Result<Bytes, NoMemory>
     ensures { IfOk result (λ bytes. bytes ≡ texts.bytes_of words.no_such_node close) }
 {
-    failure(
-        alloc,
-        ErrorCode::InvalidArgument,
-        "no registered node has this number",
-        close,
-    )
+    failure(alloc, ErrorCode::InvalidArgument, NO_NODE, close)
 }
 
 /// The response to a refused request, after which the connection ends.
 pub fn refusal(alloc: Global, fault: FrameFault) -> Result<Bytes, NoMemory>
     ensures { IfOk result (λ bytes. bytes ≡ texts.bytes_of (words.refusal fault) true) }
 {
-    let words = fault_text(fault);
-    let message = format!(in alloc; "bad request: {words}")?;
-    failure(alloc, ErrorCode::InvalidArgument, message.as_str(), true)
+    failure(alloc, ErrorCode::InvalidArgument, fault_text(fault), true)
 }
 
 /// The response to a New Session whose body is refused. Out of memory is that of the body too.
@@ -133,7 +120,7 @@ pub fn reg_refusal(alloc: Global, fault: &RegFault, close: bool) -> Result<Bytes
 fn numbers_are_spent(alloc: Global, close: bool) -> Result<Bytes, NoMemory>
     ensures { IfOk result (λ bytes. bytes ≡ texts.bytes_of words.numbers_are_spent close) }
 {
-    failure(alloc, ErrorCode::UnknownError, "numbers are spent", close)
+    failure(alloc, ErrorCode::UnknownError, NUMBERS_SPENT, close)
 }
 
 /// The response to a request that the hub did not queue. Out of memory is that of the hub too.
@@ -143,8 +130,7 @@ pub fn enqueue_refusal(alloc: Global, answer: &Enqueued, close: bool) -> Result<
     match answer {
         Enqueued::NumbersSpent => numbers_are_spent(alloc, close),
         Enqueued::Unsupported => {
-            let message = "no registered slot matches";
-            failure(alloc, ErrorCode::SessionNotCreated, message, close)
+            failure(alloc, ErrorCode::SessionNotCreated, NO_SLOT_MATCHES, close)
         }
         Enqueued::QueueFull { count, bytes } => {
             let message = format!(in alloc; "queue is full: {count} requests, {bytes} bytes")?;
@@ -256,17 +242,12 @@ fn lent(value: &Option<Bytes>) -> Option<&[u8]>
 pub fn node_unreachable(alloc: Global, close: bool) -> Result<Bytes, NoMemory>
     ensures { IfOk result (λ bytes. bytes ≡ texts.bytes_of words.node_unreachable close) }
 {
-    failure(alloc, ErrorCode::UnknownError, "node is unreachable", close)
+    failure(alloc, ErrorCode::UnknownError, NODE_UNREACHABLE, close)
 }
 
 /// The response where the session's node replied by something else than HTTP.
 pub fn node_not_http(alloc: Global, close: bool) -> Result<Bytes, NoMemory>
     ensures { IfOk result (λ bytes. bytes ≡ texts.bytes_of words.node_not_http close) }
 {
-    failure(
-        alloc,
-        ErrorCode::UnknownError,
-        "node's reply is not HTTP",
-        close,
-    )
+    failure(alloc, ErrorCode::UnknownError, NODE_NOT_HTTP, close)
 }

@@ -6,6 +6,7 @@ use Rattle.grid_outside.specs.declared.exchange.Ask.{Ask}
 use Rattle.grid_outside.specs.declared.exchange.Reply.TheVariants as reply
 use Rattle.grid_outside.specs.declared.exchange.ExchangeFault.TheVariants as fault
 use Rattle.grid_outside.specs.Exchanges.{Came}
+use Rattle.wd_bodies.specs.declared.paths.TheConstants.{STATUS}
 use Rattle.node_signs.specs.Signs.{ask_to_beat, ask_to_register, BeatIs, RegisterIs}
 use Rattle.node_signs.specs.declared.signs.TheConstants.{SERVED}
 use Rattle.node_signs.specs.declared.signs.Beat.{Beat}
@@ -16,7 +17,7 @@ use Rattle.grid_attach.specs.declared.attaching.TheConstants.{BEAT_MS, RETRY_MS}
 abbrev pub ask_for_status : Ask
 ask_for_status = record {
   method = codes "GET";
-  target = codes "/status";
+  target = STATUS.now;
   accept = None;
   accept_encoding = None;
   content_type = None;

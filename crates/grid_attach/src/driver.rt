@@ -7,6 +7,7 @@ use grid_outside::{ExchangeFault, NodeLink, NodeRequest, Reply};
 use grid_types::{NoMemory, NodeAddress};
 use node_signs::SERVED;
 use std::alloc::Global;
+use wd_bodies::STATUS;
 
 fn ready(came: &Result<Reply, ExchangeFault>) -> Result<bool, NoMemory>
     ensures { ReadyIs came.now result }
@@ -30,7 +31,7 @@ pub fn is_ready<N: NodeLink>(
 {
     let request = NodeRequest {
         method: b"GET",
-        target: b"/status",
+        target: STATUS.as_bytes(),
         accept: None,
         accept_encoding: None,
         content_type: None,

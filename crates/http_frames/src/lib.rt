@@ -5,6 +5,7 @@ ghost use Rattle.std.specs.Prelude.{◌≡◌, ◌≤◌, length, take, drop};
 
 mod calm;
 mod chunks;
+mod faults;
 mod fields;
 mod frames;
 mod heads;
@@ -15,6 +16,7 @@ mod replies;
 mod turns;
 mod writing;
 
+pub use crate::faults::fault_text;
 pub use crate::frames::{
     Body, Frame, FrameLimits, Head, LIMITS, Parts, Step, expects_continue, next_request,
 };
@@ -24,7 +26,7 @@ pub use crate::laws::{
 pub use crate::plain::{PlainFrame, plain_request};
 pub use crate::reader::{FrameReader, ReaderStep};
 pub use crate::replies::{NodeReply, RStep, next_response};
-pub use crate::writing::{NodeRequest, ReplyHeaders, write_request, write_response};
+pub use crate::writing::{CONTINUE, NodeRequest, ReplyHeaders, write_request, write_response};
 
 /// Why a request is refused (RFC 9112). Where several hold, the answer is the first of `BadHead`,
 /// `HeadTooLong`, `OtherCoding`, `BothLengths`, `BadLength`, `BodyTooLong` and `BadChunk`.

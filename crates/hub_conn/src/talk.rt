@@ -10,12 +10,9 @@ mod writing;
 use crate::inbox::{Inbox, behind};
 use conn_script::{Answer, ConnFault, End, HubCall, LIMIT, PIECE, Run, Served, Undoing, Want};
 use grid_types::{Bytes, ReqNo, SessionId};
-use http_frames::{one_head, stays};
+use http_frames::{CONTINUE, one_head, stays};
 use router_core::Router;
 use std::alloc::Global;
-
-/// The interim response to a client that waits with its body (RFC 9110 §15.2.1).
-const CONTINUE: &[u8] = b"HTTP/1.1 100 Continue\r\n\r\n";
 
 /// What comes after a response.
 #[derive(Clone, Copy)]

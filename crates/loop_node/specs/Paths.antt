@@ -1,6 +1,7 @@
 -- What a request to the node asks for, by its method and its target.
 use Rattle.std.specs.Prelude.{ℕ, ◌==◌, if◌then◌else◌, List, [], ◌∷◌, Option, Some, None, bytes_eq, codes}
 use Rattle.std.specs.Str.{is_utf8}
+use Rattle.wd_bodies.specs.declared.paths.TheConstants.{BEFORE_SESSION, SESSIONS, STATUS}
 use Rattle.loop_node.specs.declared.paths.Place.{Place}
 use Rattle.loop_node.specs.declared.paths.Place.TheVariants as slice
 use Rattle.loop_node.specs.declared.paths.Wanted.{Wanted}
@@ -44,9 +45,9 @@ path_behind (Some rest) = path_of_id (up_to 47 rest) (from_first 47 rest)
 
 abbrev pub path_of_text : List ℕ → Path
 path_of_text text =
-    if bytes_eq text (codes "/session") then all_sessions
-    else if bytes_eq text (codes "/status") then status
-    else path_behind (behind (codes "/session/") text)
+    if bytes_eq text SESSIONS.now then all_sessions
+    else if bytes_eq text STATUS.now then status
+    else path_behind (behind BEFORE_SESSION.now text)
 
 -- the path of a target: the text up to its query; one that is not UTF-8 is unknown
 unfoldable pub path_of : List ℕ → Path

@@ -4,6 +4,8 @@ use Rattle.http.specs.StatusCode.{reason_phrase}
 use Rattle.http_frames.specs.declared.replies.NodeReply.{NodeReply}
 use Rattle.wd_bodies.specs.declared.code.ErrorCode.{ErrorCode}
 use Rattle.wd_bodies.specs.declared.code.ErrorCode.TheVariants as code
+use Rattle.wd_bodies.specs.declared.headers.TheConstants.{JSON_TYPE, NO_CACHE}
+use Rattle.wd_bodies.specs.declared.messages.TheConstants.{NO_COMMAND, NO_METHOD, NO_SESSION}
 use Rattle.wd_bodies.specs.Codes.{code_status}
 use Rattle.wd_bodies.specs.Bodies.{value_bytes, error_bytes, created_bytes}
 use Rattle.grid_types.specs.Capabilities.{json_string}
@@ -18,9 +20,9 @@ abbrev pub json_reply : ℕ → List ℕ → NodeReply
 json_reply status body = record {
   status = status;
   reason = unwrap_or (reason_phrase status) [];
-  content_type = Some (codes "application/json; charset=utf-8");
+  content_type = Some JSON_TYPE.now;
   content_encoding = None;
-  cache_control = Some (codes "no-cache");
+  cache_control = Some NO_CACHE.now;
   body = body;
 }
 
@@ -34,7 +36,7 @@ abbrev pub null_body : List ℕ
 null_body = value_bytes (codes "null")
 
 abbrev pub no_session : NodeReply
-no_session = failure code.InvalidSessionId (codes "no such session")
+no_session = failure code.InvalidSessionId NO_SESSION.now
 
 -- a reply, and the node after it
 abbrev pub Answered : Type 0
@@ -93,10 +95,10 @@ abbrev pub status_answer : Node → Answered
 status_answer node = (success (value_bytes (status_json (has_room node))), node)
 
 abbrev pub command_answer : Node → Answered
-command_answer node = (failure code.UnknownCommand (codes "no command has this path"), node)
+command_answer node = (failure code.UnknownCommand NO_COMMAND.now, node)
 
 abbrev pub method_answer : Node → Answered
-method_answer node = (failure code.UnknownMethod (codes "this path has no such method"), node)
+method_answer node = (failure code.UnknownMethod NO_METHOD.now, node)
 
 abbrev pub IsMoved : Node → List ℕ → List ℕ → Answered → Type 0
 IsMoved node id body answer =

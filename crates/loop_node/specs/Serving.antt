@@ -2,7 +2,8 @@
 use Rattle.std.specs.Prelude.{◌≡◌, ℕ, Bool, true, IsTrue, if◌then◌else◌, List, [], ◌∷◌, ◌++◌, length, drop, Option, Some, None, codes, decimal}
 use Rattle.httparse.specs.Grammar.{RequestHead}
 use Rattle.http_frames.specs.declared.FrameFault.{FrameFault}
-use Rattle.http_frames.specs.declared.FrameFault.TheVariants as fault
+use Rattle.http_frames.specs.Faults.{fault_text}
+use Rattle.http_frames.specs.declared.writing.TheConstants.{CONTINUE}
 use Rattle.http_frames.specs.declared.frames.TheConstants.{LIMITS}
 use Rattle.http_frames.specs.declared.replies.NodeReply.{NodeReply}
 use Rattle.http_frames.specs.Chunks.{joined}
@@ -51,7 +52,7 @@ reply_bytes reply close = reply_head reply close ++ (if has_no_body reply.status
 
 -- what a client that waits for it is told first (RFC 9110 §15.2.1)
 abbrev pub go_on : Bool → List ℕ
-go_on waits = if waits then codes "HTTP/1.1 100 Continue\r\n\r\n" else []
+go_on waits = if waits then CONTINUE.now else []
 
 -- what is written for a request
 abbrev pub response_to : Request → NodeReply → List ℕ
@@ -70,15 +71,6 @@ Serves node (r ∷ requests) written new =
 pub record Waits (bytes : List ℕ) (waits : Bool) : Type 0 where
   pub accepted : (h : RequestHead) → IsAccepted LIMITS bytes h → waits ≡ expects LIMITS h
   pub only : IsTrue waits → (h : RequestHead) × IsAccepted LIMITS bytes h × (expects LIMITS h ≡ true)
-
-abbrev pub fault_text : FrameFault → List ℕ
-fault_text fault.BadHead = codes "bad request: head"
-fault_text fault.HeadTooLong = codes "bad request: head too long"
-fault_text fault.BadLength = codes "bad request: length"
-fault_text fault.BothLengths = codes "bad request: both lengths"
-fault_text fault.BadChunk = codes "bad request: chunk"
-fault_text fault.BodyTooLong = codes "bad request: body too long"
-fault_text fault.OtherCoding = codes "bad request: coding"
 
 -- the response to a request that is refused, behind which the connection closes
 abbrev pub refused_reply : FrameFault → NodeReply

@@ -16,7 +16,9 @@ use http_frames::{NodeReply, NodeRequest};
 use std::alloc::Global;
 use std::marker::Model;
 use uuid::Uuid;
-use wd_bodies::{ErrorCode, created_body, json_text, value_body};
+use wd_bodies::{
+    ErrorCode, NO_COMMAND, NO_METHOD, NO_SESSION, created_body, json_text, value_body,
+};
 
 /// A session of the node, and the url that it is at.
 #[derive(Debug, Drop)]
@@ -110,7 +112,7 @@ fn first_session(alloc: Global, id: SessionId) -> Result<Session, NoMemory>
 fn no_session(alloc: Global) -> Result<NodeReply, NoMemory>
     ensures { IfOk result (λ reply. reply ≡ no_session) }
 {
-    failure(alloc, ErrorCode::InvalidSessionId, "no such session")
+    failure(alloc, ErrorCode::InvalidSessionId, NO_SESSION)
 }
 
 impl LoopNode {
@@ -184,17 +186,13 @@ impl LoopNode {
     fn no_command(&self, alloc: Global) -> Result<NodeReply, NoMemory>
         ensures { IfOk result (λ reply. AnswersTo unknown_command self.now [] (reply, self.now)) }
     {
-        failure(alloc, ErrorCode::UnknownCommand, "no command has this path")
+        failure(alloc, ErrorCode::UnknownCommand, NO_COMMAND)
     }
 
     fn no_method(&self, alloc: Global) -> Result<NodeReply, NoMemory>
         ensures { IfOk result (λ reply. AnswersTo unknown_method self.now [] (reply, self.now)) }
     {
-        failure(
-            alloc,
-            ErrorCode::UnknownMethod,
-            "this path has no such method",
-        )
+        failure(alloc, ErrorCode::UnknownMethod, NO_METHOD)
     }
 
     fn start(&mut self, alloc: Global, body: &[u8]) -> Result<NodeReply, NoMemory>

@@ -2,6 +2,8 @@
 ghost use Rattle.std.specs.Prelude.{◌≡◌, MatchOption, None, Some};
 ghost use Rattle.loop_node.specs.Paths.{behind as behind_text, up_to as up_to_first, from_first, path_of_id, path_behind, path_of_text, path_of as path_in, path_told, asked_at, asked_of, asked_told};
 
+use wd_bodies::{BEFORE_SESSION, SESSIONS, STATUS};
+
 /// The paths that the node knows.
 #[derive(Clone, Copy, Debug)]
 pub(crate) enum Place<'a> {
@@ -68,13 +70,13 @@ fn place_behind(rest: &[u8]) -> Place<'_>
 fn place_of_text(path: &[u8]) -> Place<'_>
     ensures { path_told result ≡ path_of_text path.now }
 {
-    if path == b"/session".as_slice() {
+    if path == SESSIONS.as_bytes() {
         return Place::Sessions;
     }
-    if path == b"/status".as_slice() {
+    if path == STATUS.as_bytes() {
         return Place::Status;
     }
-    match path.strip_prefix(b"/session/") {
+    match path.strip_prefix(BEFORE_SESSION.as_bytes()) {
         Some(rest) => place_behind(rest),
         None => Place::Unknown,
     }

@@ -7,7 +7,7 @@ ghost use Rattle.loop_node.specs.Sessions.{text_cap, node_caps};
 use grid_types::{Bytes, Cap, CapValue, Caps, NoMemory, Text};
 use http_frames::NodeReply;
 use std::alloc::Global;
-use wd_bodies::{ErrorCode, error_body, phrase_of, status_of};
+use wd_bodies::{ErrorCode, JSON_TYPE, NO_CACHE, error_body, phrase_of, status_of};
 
 /// A reply with a JSON body.
 fn json_reply(alloc: Global, status: u16, body: Bytes) -> Result<NodeReply, NoMemory>
@@ -17,9 +17,9 @@ fn json_reply(alloc: Global, status: u16, body: Bytes) -> Result<NodeReply, NoMe
     Ok(NodeReply {
         status,
         reason: Bytes::of(alloc, phrase_of(status).as_bytes())?,
-        content_type: Some(Bytes::of(alloc, b"application/json; charset=utf-8")?),
+        content_type: Some(Bytes::of(alloc, JSON_TYPE)?),
         content_encoding: None,
-        cache_control: Some(Bytes::of(alloc, b"no-cache")?),
+        cache_control: Some(Bytes::of(alloc, NO_CACHE)?),
         body,
     })
 }

@@ -7,7 +7,7 @@ ghost use Rattle.http_frames.specs.Chunks.{joined};
 ghost use Rattle.http_frames.specs.declared.frames.TheConstants.{LIMITS};
 ghost use Rattle.grid_outside.specs.Exchanges.{lent};
 ghost use Rattle.loop_node.specs.Replies.{Answers};
-ghost use Rattle.loop_node.specs.Serving.{plain_ask, reply_bytes, fault_text, refused_reply, refusal, Waits, go_on};
+ghost use Rattle.loop_node.specs.Serving.{plain_ask, reply_bytes, refused_reply, refusal, Waits, go_on};
 ghost use Rattle.loop_node.specs.Connections.{told_by, Moved, Later, Blames, Responds, WroteFront, StopsAt, TellsFront, further};
 
 use crate::incoming::Incoming;
@@ -17,8 +17,8 @@ use crate::serving::NodeFault;
 use grid_outside::Link;
 use grid_types::{Bytes, NoMemory};
 use http_frames::{
-    Frame, FrameFault, LIMITS, NodeReply, NodeRequest, Parts, ReplyHeaders, expects_continue,
-    write_response,
+    CONTINUE, Frame, FrameFault, LIMITS, NodeReply, NodeRequest, Parts, ReplyHeaders,
+    expects_continue, fault_text, write_response,
 };
 use std::alloc::Global;
 use wd_bodies::ErrorCode;
@@ -167,20 +167,6 @@ pub(crate) fn respond<L: Link>(
     }
 }
 
-fn fault_text(why: FrameFault) -> &'static str
-    ensures { result.now ≡ fault_text why }
-{
-    match why {
-        FrameFault::BadHead => "bad request: head",
-        FrameFault::HeadTooLong => "bad request: head too long",
-        FrameFault::BadLength => "bad request: length",
-        FrameFault::BothLengths => "bad request: both lengths",
-        FrameFault::BadChunk => "bad request: chunk",
-        FrameFault::BodyTooLong => "bad request: body too long",
-        FrameFault::OtherCoding => "bad request: coding",
-    }
-}
-
 /// The reply to a request that is refused.
 fn refused_reply(alloc: Global, why: FrameFault) -> Result<NodeReply, NoMemory>
     ensures { IfOk result (λ reply. reply ≡ refused_reply why) }
@@ -225,7 +211,7 @@ fn tell_once<L: Link>(link: &mut L, told: bool, waits: bool) -> Result<(), NodeF
         (told_by L.given L.taken L.ends L.read_faults L.write_faults link.new)) }
 {
     if waits && !told {
-        write_all(link, b"HTTP/1.1 100 Continue\r\n\r\n")
+        write_all(link, CONTINUE)
     } else {
         Ok(())
     }

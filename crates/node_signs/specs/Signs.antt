@@ -5,6 +5,8 @@ use Rattle.grid_types.specs.declared.capabilities.SlotGroup.{SlotGroup}
 use Rattle.grid_types.specs.declared.capabilities.Registration.{Registration}
 use Rattle.grid_types.specs.declared.text.NoMemory.{NoMemory}
 use Rattle.grid_types.specs.Capabilities.{json_string, written_caps}
+use Rattle.wd_bodies.specs.declared.headers.TheConstants.{JSON_TYPE}
+use Rattle.wd_bodies.specs.declared.paths.TheConstants.{BEFORE_NODE, NODES}
 use Rattle.grid_outside.specs.declared.exchange.Ask.{Ask}
 use Rattle.grid_outside.specs.declared.exchange.Reply.TheVariants as reply
 use Rattle.grid_outside.specs.declared.exchange.ExchangeFault.TheVariants as fault
@@ -48,10 +50,10 @@ registered_bytes n = codes "{\"value\":{\"node\":" ++ (decimal n ++ codes "}}")
 abbrev pub ask_to_register : List ℕ → Ask
 ask_to_register body = record {
   method = codes "POST";
-  target = codes "/se/grid/distributor/node";
+  target = NODES.now;
   accept = None;
   accept_encoding = None;
-  content_type = Some (codes "application/json; charset=utf-8");
+  content_type = Some JSON_TYPE.now;
   content_encoding = None;
   body = body;
 }
@@ -70,7 +72,7 @@ ask_to_post target = record {
 
 -- the request that is a beat
 abbrev pub ask_to_beat : ℕ → Ask
-ask_to_beat n = ask_to_post (codes "/se/grid/distributor/node/" ++ decimal n ++ codes "/beat")
+ask_to_beat n = ask_to_post (BEFORE_NODE.now ++ decimal n ++ codes "/beat")
 
 -- the number that a served answer gives
 abbrev pub Numbers : Bool → List ℕ → Option ℕ → Type 0

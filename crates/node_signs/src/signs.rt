@@ -8,6 +8,7 @@ use crate::number::number_told;
 use grid_outside::{ExchangeFault, NodeLink, NodeReply, NodeRequest, Reply};
 use grid_types::{NoMemory, NodeAddress, NodeNo};
 use std::alloc::Global;
+use wd_bodies::{BEFORE_NODE, JSON_TYPE, NODES};
 
 /// The status of a request that was served (RFC 9110 §15.3.1).
 pub const SERVED: u16 = 200;
@@ -56,10 +57,10 @@ pub fn register<N: NodeLink>(
 {
     let request = NodeRequest {
         method: b"POST",
-        target: b"/se/grid/distributor/node",
+        target: NODES.as_bytes(),
         accept: None,
         accept_encoding: None,
-        content_type: Some(b"application/json; charset=utf-8"),
+        content_type: Some(JSON_TYPE),
         content_encoding: None,
         body,
     };
@@ -114,7 +115,7 @@ pub fn send_beat<N: NodeLink>(
 ) -> Result<Beat, NoMemory>
     ensures { OnOk result ((came : Came) × (N.gives nodes.old hub.now (ask_to_beat node) came nodes.new) × (BeatIs came result)) }
 {
-    match format!(in alloc; "/se/grid/distributor/node/{node}/beat") {
+    match format!(in alloc; "{BEFORE_NODE}{node}/beat") {
         Ok(target) => told(alloc, nodes, hub, target.as_bytes()),
         Err(_) => Err(NoMemory),
     }

@@ -2,6 +2,7 @@
 use Rattle.std.specs.Prelude.{ℕ, cond, List, [], ◌∷◌, Option, Some, None, option_map, Result, Err, ok_or, codes, bytes_eq}
 use Rattle.std.specs.Str.{is_utf8}
 use Rattle.grid_types.specs.Lists.{or_else}
+use Rattle.wd_bodies.specs.declared.paths.TheConstants.{BEFORE_NODE, BEFORE_SESSION, NODES, SESSIONS, STATUS}
 use Rattle.router_core.specs.Patterns.{Piece, text, part, rest, parts_by}
 use Rattle.router_core.specs.Targets.{own_target, path_of}
 use Rattle.router_core.specs.declared.place.Place.{Place}
@@ -42,15 +43,15 @@ route_told (routed.Beat id) = beat id.now
 -- the paths
 abbrev pub paths : List (List Piece × Place)
 paths =
-    (text (codes "/se/grid/distributor/node/") ∷ part ∷ text (codes "/beat") ∷ [], place.Beat)
-    ∷ (text (codes "/se/grid/distributor/node/") ∷ part ∷ text (codes "/drain") ∷ [], place.Drain)
-    ∷ (text (codes "/se/grid/distributor/node/") ∷ part ∷ [], place.OneNode)
-    ∷ (text (codes "/se/grid/distributor/node") ∷ [], place.Nodes)
+    (text BEFORE_NODE.now ∷ part ∷ text (codes "/beat") ∷ [], place.Beat)
+    ∷ (text BEFORE_NODE.now ∷ part ∷ text (codes "/drain") ∷ [], place.Drain)
+    ∷ (text BEFORE_NODE.now ∷ part ∷ [], place.OneNode)
+    ∷ (text NODES.now ∷ [], place.Nodes)
     ∷ (text (codes "/se/grid/newsessionqueue/queue") ∷ [], place.Queue)
-    ∷ (text (codes "/session/") ∷ part ∷ text (codes "/") ∷ rest ∷ [], place.Commands)
-    ∷ (text (codes "/session/") ∷ part ∷ [], place.OneSession)
-    ∷ (text (codes "/session") ∷ [], place.Session)
-    ∷ (text (codes "/status") ∷ [], place.Status)
+    ∷ (text BEFORE_SESSION.now ∷ part ∷ text (codes "/") ∷ rest ∷ [], place.Commands)
+    ∷ (text BEFORE_SESSION.now ∷ part ∷ [], place.OneSession)
+    ∷ (text SESSIONS.now ∷ [], place.Session)
+    ∷ (text STATUS.now ∷ [], place.Status)
     ∷ []
 
 -- the place of a path, and its parts

@@ -5,6 +5,7 @@ use Rattle.matchit.specs.Route.{parse_route, Scan}
 use Rattle.matchit.specs.Router.{RouteOf, route_from}
 use Rattle.matchit.specs.Order.{placed}
 use Rattle.matchit.specs.declared.error.InsertError.{InsertError}
+use Rattle.wd_bodies.specs.declared.paths.TheConstants.{NODES, SESSIONS, STATUS}
 use Rattle.router_core.specs.declared.place.Place.{Place}
 use Rattle.router_core.specs.declared.place.Place.TheVariants as place
 
@@ -21,9 +22,9 @@ rows =
     with (codes "/se/grid/distributor/node/{id}/beat") place.Beat
     (with (codes "/se/grid/distributor/node/{id}/drain") place.Drain
     (with (codes "/se/grid/distributor/node/{id}") place.OneNode
-    (with (codes "/se/grid/distributor/node") place.Nodes
+    (with NODES.now place.Nodes
     (with (codes "/se/grid/newsessionqueue/queue") place.Queue
-    (with (codes "/status") place.Status
+    (with STATUS.now place.Status
     (with (codes "/session/{id}/{*rest}") place.Commands
     (with (codes "/session/{id}") place.OneSession
-    (with (codes "/session") place.Session []))))))))
+    (with SESSIONS.now place.Session []))))))))

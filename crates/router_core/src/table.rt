@@ -11,6 +11,7 @@ use crate::routed::Routed;
 use crate::target::up_to;
 use matchit::InsertError;
 use std::alloc::Global;
+use wd_bodies::{BEFORE_NODE, BEFORE_SESSION, NODES, SESSIONS, STATUS};
 
 /// The row that the path is in.
 pub(crate) fn find(router: &matchit::Router<Place>, path: &str) -> Option<Place>
@@ -27,12 +28,12 @@ pub(crate) fn routes(alloc: Global) -> Result<matchit::Router<Place>, InsertErro
     ensures ok { IfOk result (λ r. r ≡ rows) }
 {
     let mut router = matchit::Router::new(alloc);
-    router.insert("/session", Place::Session)?;
+    router.insert(SESSIONS, Place::Session)?;
     router.insert("/session/{id}", Place::OneSession)?;
     router.insert("/session/{id}/{*rest}", Place::Commands)?;
-    router.insert("/status", Place::Status)?;
+    router.insert(STATUS, Place::Status)?;
     router.insert("/se/grid/newsessionqueue/queue", Place::Queue)?;
-    router.insert("/se/grid/distributor/node", Place::Nodes)?;
+    router.insert(NODES, Place::Nodes)?;
     router.insert("/se/grid/distributor/node/{id}", Place::OneNode)?;
     router.insert("/se/grid/distributor/node/{id}/drain", Place::Drain)?;
     router.insert("/se/grid/distributor/node/{id}/beat", Place::Beat)?;
@@ -44,10 +45,8 @@ pub(crate) fn id(place: Place, path: &[u8]) -> &[u8]
     ensures { result.now ≡ id_at place path.now }
 {
     match place {
-        Place::OneSession | Place::Commands => part_behind(path, b"/session/".len()),
-        Place::OneNode | Place::Drain | Place::Beat => {
-            part_behind(path, b"/se/grid/distributor/node/".len())
-        }
+        Place::OneSession | Place::Commands => part_behind(path, BEFORE_SESSION.len()),
+        Place::OneNode | Place::Drain | Place::Beat => part_behind(path, BEFORE_NODE.len()),
         Place::Session | Place::Status | Place::Queue | Place::Nodes => &[],
     }
 }

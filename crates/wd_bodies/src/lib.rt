@@ -1,4 +1,5 @@
-//! The JSON bodies that the hub writes, byte for byte, and the statuses that go with them.
+//! The JSON bodies that the hub writes, byte for byte, and what goes with them: statuses, headers, fixed messages, and
+//! the paths that the hub and its nodes have in common.
 //!
 //! Choices that concern this crate alone:
 //!
@@ -11,12 +12,21 @@
 mod bodies;
 mod capabilities;
 mod code;
+mod headers;
 mod laws;
+mod messages;
+mod paths;
 
 pub use bodies::{created_body, error_body, start_body, value_body};
 pub use capabilities::{caps_text, json_text};
 pub use code::{ErrorCode, phrase_of, status_of};
+pub use headers::{JSON_TYPE, NO_CACHE};
 pub use laws::{
     capabilities_are_read_again, created_are_read_again, errors_are_read_again,
     starts_are_read_again, values_are_read_again,
 };
+pub use messages::{
+    HUB_SPENT, NO_COMMAND, NO_METHOD, NO_NODE, NO_SESSION, NO_SLOT_MATCHES, NODE_NOT_HTTP,
+    NODE_UNREACHABLE, NUMBERS_SPENT,
+};
+pub use paths::{BEFORE_NODE, BEFORE_SESSION, NODES, SESSIONS, STATUS};

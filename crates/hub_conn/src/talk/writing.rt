@@ -6,10 +6,10 @@ ghost use Rattle.conn_script.specs.declared.wants.Answer.TheVariants as told;
 ghost use Rattle.hub_conn.specs.Inbox.{HoldsSome};
 ghost use Rattle.hub_conn.specs.Talk.{StandsForSome, awaited, Feeds, Settles, of_nothing, of_write, result_cause, IsAnswerable, Responds, ThenAfter, EndsUndone, ContinuesBy, HoldsNext, SentAll, SendsBy, BreaksOff, writes_bytes};
 
-use crate::talk::{CONTINUE, Kept, Outgoing, State, Talk, Then};
+use crate::talk::{Kept, Outgoing, State, Talk, Then};
 use conn_script::{ConnFault, End, Undoing};
 use grid_types::{Bytes, ReqNo, SessionId};
-use http_frames::stays;
+use http_frames::{CONTINUE, stays};
 
 impl Talk {
     /// So many bytes were taken.
