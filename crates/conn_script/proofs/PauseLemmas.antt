@@ -1,6 +1,6 @@
 -- A script pauses only where a poll was told to wait.
-use Rattle.std.proofs.Common.{◌≡◌, ℕ, Bool, true, false, ◌&&◌, List, [], ◌∷◌, ◌++◌, refl, sym, ap, subst, ◌∙◌}
-use Rattle.std.specs.Prelude.{Option, None, Some, Result, Ok, Err}
+use Rattle.std.proofs.Common.{◌≡◌, ℕ, Bool, true, false, ◌&&◌, List, [], ◌∷◌, ◌++◌, refl, ap}
+use Rattle.std.specs.Prelude.{Option, Some, Result, Ok, Err}
 use Rattle.http_frames.specs.Frames.{Request}
 use Rattle.grid_types.specs.declared.capabilities.Cap.{Cap}
 use Rattle.grid_types.specs.Calls.{Call, Reply}
@@ -29,7 +29,7 @@ use Rattle.conn_script.specs.Relay.{AfterTouch, AfterFound, FindsNode, Relay}
 use Rattle.conn_script.specs.NewSession as creating
 use Rattle.conn_script.specs.NewSession.{SpentStart, Rounds, Asks, NewSession}
 use Rattle.conn_script.specs.Script.{ByRoute, Script, route}
-use Rattle.conn_script.specs.Pauses.{ends_early, ends_early_behind, is_early_poll, PausesBehindPolls}
+use Rattle.conn_script.specs.Pauses.{ends_early_behind, is_early_poll, PausesBehindPolls}
 
 never : false ≡ true → ⊥
 never e = cc

@@ -1,5 +1,5 @@
 -- The laws of kinds, by which the tables that keep one request of each are proved.
-use Rattle.std.specs.Prelude.{◌≡◌, ℕ, Bool, true, List}
+use Rattle.std.specs.Prelude.{◌≡◌, ℕ, true, List}
 use Rattle.std.specs.Bool.{Decides}
 use Rattle.grid_types.specs.declared.entry.Entry.{Entry}
 use Rattle.grid_types.specs.declared.capabilities.Cap.{Cap}

@@ -1,6 +1,6 @@
 -- How a check goes on by one entry, by bytes that are read, and to a verdict.
-use Rattle.std.proofs.Common.{◌≡◌, ℕ, suc, ◌+◌, ◌-◌, ◌*◌, ◌^◌, ◌<◌, ◌≤◌, min, cond, Bool, true, false, ◌&&◌, nat_eq, nat_le, List, [], ◌∷◌, ◌++◌, length, drop, reverse, flat_map, codes, refl, sym, ◌∙◌, ap, subst, inl, inr, arith, append_assoc, append-nil, length-append, length-drop}
-use Rattle.std.specs.Prelude.{◌⊎◌, Option, None, Some, Result, Ok, Err, is_err, IfOk, OnOk}
+use Rattle.std.proofs.Common.{◌≡◌, ℕ, suc, ◌+◌, ◌-◌, ◌^◌, ◌<◌, ◌≤◌, min, Bool, true, false, ◌&&◌, nat_le, List, [], ◌∷◌, ◌++◌, length, drop, reverse, flat_map, codes, refl, sym, ◌∙◌, ap, subst, inl, inr, arith, append_assoc, append-nil, length-append}
+use Rattle.std.specs.Prelude.{Option, Some, Result, Ok, Err, is_err, IfOk, OnOk}
 use Rattle.std.proofs.Math.Seq.{drop-append_seam}
 use Rattle.std.proofs.lemmas.Bool.Decides.{nat_tests}
 use Rattle.std.proofs.lemmas.List.{reverse-append}
@@ -8,18 +8,14 @@ use Rattle.std.proofs.lemmas.Grind.{flat_map-append}
 use Rattle.std.proofs.lemmas.List.Concat.{flat_map-cons}
 use Rattle.grid_types.specs.declared.config.HubConfig.{HubConfig}
 use Rattle.grid_types.specs.declared.entry.Entry.{Entry}
-use Rattle.grid_types.specs.Config.{IsValid}
 use Rattle.grid_types.specs.Permitted.{permitted}
 use Rattle.grid_types.specs.Legal.{legal}
-use Rattle.grid_types.specs.Safe.{IsSafe}
 use Rattle.grid_types.specs.Laws.{LegalHistoriesAreSafe}
 use Rattle.grid_outside.specs.Counts.{Rose}
-use Rattle.grid_outside.specs.Told.{Gains}
 use Rattle.grid_journal.specs.declared.head.HeadStep.TheVariants as head_step
 use Rattle.grid_journal.specs.Spelled.{eight_bytes, four_bytes, flag_byte, change_bytes, entry_bytes, head_bytes, journal_bytes}
-use Rattle.grid_journal.specs.Fits.{AllFit, ConfigFits}
 use Rattle.grid_journal.specs.HeadReads.{HeadRead}
-use Rattle.grid_journal.specs.EntryReads.{IsEntry, BeginsEntry, BeginsWithEntry, NoEntry}
+use Rattle.grid_journal.specs.EntryReads.{BeginsEntry, BeginsWithEntry, NoEntry}
 use Rattle.grid_ledger.specs.declared.ledger.GridLedger.{GridLedger}
 use Rattle.grid_ledger.specs.LedgerStands.{Stands, LedgerTells, Notes}
 use Rattle.grid_check.proofs.StreamLemmas.{gains_more}
@@ -30,9 +26,9 @@ use Rattle.grid_check.specs.declared.verdict.Verdict.TheVariants as verdict
 use Rattle.grid_check.specs.declared.verdict.CheckFault.{CheckFault}
 use Rattle.grid_check.specs.declared.checking.Opened.{Opened}
 use Rattle.grid_check.specs.declared.checking.Opened.TheVariants as opened
-use Rattle.grid_check.specs.Feeds.{waiting, Reads, HasMore}
-use Rattle.grid_check.specs.Verdicts.{IsJournal, Says, most_bytes, tells_end, IsVerdict}
-use Rattle.grid_check.specs.Checks.{Told, told, EndWasTold, HasRead, IsTold, IsOpened, Opens, Goes, GoesOn, Lessens, left_of}
+use Rattle.grid_check.specs.Feeds.{waiting, Reads}
+use Rattle.grid_check.specs.Verdicts.{IsJournal, most_bytes, tells_end, IsVerdict}
+use Rattle.grid_check.specs.Checks.{Told, HasRead, IsTold, IsOpened, Opens, Goes, GoesOn}
 
 -- ---- what is told
 

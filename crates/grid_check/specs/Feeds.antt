@@ -1,5 +1,5 @@
 -- The bytes that were read and are not taken off.
-use Rattle.std.specs.Prelude.{◌≡◌, ◌⊎◌, ℕ, ◌+◌, ◌≤◌, Bool, true, List, ◌++◌, length, drop, Option}
+use Rattle.std.specs.Prelude.{◌≡◌, ◌⊎◌, ℕ, ◌+◌, ◌≤◌, true, List, ◌++◌, length, drop, Option}
 use Rattle.grid_outside.specs.Told.{Gains}
 use Rattle.grid_check.specs.declared.feed.Feed.{Feed}
 

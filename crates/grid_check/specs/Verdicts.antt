@@ -1,5 +1,5 @@
 -- What a verdict says of bytes.
-use Rattle.std.specs.Prelude.{◌≡◌, ◌⊎◌, ℕ, ◌^◌, ◌<◌, ◌≤◌, Bool, true, false, List, [], ◌∷◌, ◌++◌, length, Option}
+use Rattle.std.specs.Prelude.{◌≡◌, ◌⊎◌, ℕ, ◌^◌, ◌<◌, ◌≤◌, Bool, true, false, List, [], ◌++◌, length, Option}
 use Rattle.grid_types.specs.declared.config.HubConfig.{HubConfig}
 use Rattle.grid_types.specs.declared.entry.Entry.{Entry}
 use Rattle.grid_types.specs.Config.{IsValid}
@@ -8,7 +8,7 @@ use Rattle.grid_types.specs.Legal.{legal}
 use Rattle.grid_types.specs.Safe.{IsSafe}
 use Rattle.grid_outside.specs.Told.{Gains}
 use Rattle.grid_journal.specs.declared.head.HeadStep.TheVariants as step
-use Rattle.grid_journal.specs.Spelled.{entry_bytes, head_bytes, journal_bytes}
+use Rattle.grid_journal.specs.Spelled.{entry_bytes, journal_bytes}
 use Rattle.grid_journal.specs.Fits.{AllFit, ConfigFits}
 use Rattle.grid_journal.specs.HeadReads.{HeadRead}
 use Rattle.grid_journal.specs.EntryReads.{IsEntry, BeginsEntry, NoEntry}

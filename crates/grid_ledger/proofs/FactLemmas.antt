@@ -1,6 +1,6 @@
 -- What a ledger tells of single facts.
 use Rattle.std.proofs.Common.{◌≡◌, ℕ, Bool, true, false, List, [], ◌∷◌, refl, sym, ◌∙◌, ap}
-use Rattle.std.specs.Prelude.{Option, None, Some, is_some, option_map, unwrap_or, find}
+use Rattle.std.specs.Prelude.{Option, None, is_some, option_map, unwrap_or, find}
 use Rattle.std.specs.List.{list_any, slice_get}
 use Rattle.grid_types.specs.declared.entry.Entry.{Entry}
 use Rattle.grid_types.specs.declared.capabilities.Cap.{Cap}

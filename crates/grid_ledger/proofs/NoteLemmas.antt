@@ -1,6 +1,6 @@
 -- A change noted in all tables, and a node let go.
-use Rattle.std.proofs.Common.{◌≡◌, ◌∙◌, ℕ, ◌++◌, length, ◌+◌, ◌-◌, ◌^◌, ◌<◌, ◌≤◌, min, max, Bool, true, false, List, [], ◌∷◌, refl, subst, sym, ap, arith, length-append}
-use Rattle.std.specs.Prelude.{Option, None, Some, Result, Ok, Err, OnOk, unwrap_or, nat_eq, nat_lt, nat_le}
+use Rattle.std.proofs.Common.{◌≡◌, ◌∙◌, ℕ, ◌++◌, length, ◌+◌, ◌-◌, ◌^◌, min, max, Bool, true, false, List, [], ◌∷◌, refl, subst, sym, arith, length-append}
+use Rattle.std.specs.Prelude.{Result, Ok, Err, OnOk, unwrap_or, nat_eq, nat_lt, nat_le}
 use Rattle.std.proofs.lemmas.Bool.Decides.{nat_tests}
 use Rattle.grid_types.specs.declared.entry.Entry.{Entry}
 use Rattle.grid_types.specs.declared.entry.Change.{Change}
@@ -16,10 +16,10 @@ use Rattle.grid_types.specs.History.{nodes, requests, moment_of, next_node, next
 use Rattle.grid_types.specs.Nodes.{is_registered}
 use Rattle.grid_types.specs.Sessions.{is_live}
 use Rattle.grid_types.specs.Slots.{is_listed, has_slot_in_use}
-use Rattle.grid_types.specs.Requests.{unsettled, unsettled_bytes}
+use Rattle.grid_types.specs.Requests.{unsettled_bytes}
 use Rattle.grid_types.specs.Permitted.{permitted, most_bytes}
 use Rattle.grid_types.specs.Legal.{legal}
-use Rattle.grid_types.specs.Tables.{entry, Follows, FollowsGiven, OthersKeep}
+use Rattle.grid_types.specs.Tables.{entry, Follows, FollowsGiven}
 use Rattle.node_registry.specs.Table as of_node
 use Rattle.reservation.specs.Table as of_slot
 use Rattle.session_queue.specs.Table as of_request

@@ -26,7 +26,7 @@ use Rattle.grid_types.specs.Matching.{meets}
 use Rattle.grid_types.specs.Legal.{legal}
 use Rattle.grid_types.specs.Tokens.{Closing, is_good_ticket, is_good_reservation, is_good_closing}
 use Rattle.grid_types.specs.Calls.{Call, Reply}
-use Rattle.grid_types.specs.HubAnswers.{says, makes, moment, register_by, drained, enqueued, polled, polled_open, reserves, dispatched, bind_kept, not_kept, bound, bound_by, failed, at_binding, is_binding, closes, expired_by, idle_bindings, hub, answer, after_call}
+use Rattle.grid_types.specs.HubAnswers.{says, makes, moment, register_by, drained, enqueued, polled, polled_open, reserves, dispatched, bind_kept, bound, bound_by, failed, at_binding, is_binding, closes, expired_by, idle_bindings, hub, answer, after_call}
 use Rattle.grid_types.specs.Laws.{is_good_call}
 use Rattle.grid_types.proofs.ListLemmas.{least-passes, least-all, all-filter, all-passed, and_left, and_right}
 use Rattle.grid_types.proofs.PermittedLemmas.{slot_eq-same, held-is}

@@ -1,7 +1,7 @@
 -- The least of a list depends on its members alone.
 use Rattle.std.proofs.Common.{◌≡◌, ℕ, ◌≤◌, Bool, true, false, ◌&&◌, ◌||◌, List, [], ◌∷◌, ◌++◌, filter, min, fold, refl, sym, ap, subst, ◌∙◌, arith}
 use Rattle.std.specs.Prelude.{Option, None, Some, nat_eq, nat_lt, is_some}
-use Rattle.std.specs.List.{list_any, list_all, reduce}
+use Rattle.std.specs.List.{list_all, reduce}
 use Rattle.grid_types.specs.Lists.{least, better, has}
 use Rattle.grid_types.proofs.ListLemmas.{and_left, and_right}
 

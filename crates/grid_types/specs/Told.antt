@@ -1,5 +1,5 @@
 -- What a choice that fits and a permitted change tell, fact by fact.
-use Rattle.std.specs.Prelude.{◌≡◌, ℕ, Bool, true, false, nat_lt, List, Some}
+use Rattle.std.specs.Prelude.{◌≡◌, ℕ, true, false, nat_lt, List, Some}
 use Rattle.grid_types.specs.declared.capabilities.Cap.{Cap}
 use Rattle.grid_types.specs.declared.entry.Entry.{Entry}
 use Rattle.grid_types.specs.declared.names.SlotId.{SlotId}

@@ -1,12 +1,11 @@
 -- What holds at a pause, at a request that is queued and at a read.
-use Rattle.std.proofs.Common.{◌≡◌, ℕ, ◌+◌, ◌-◌, ◌<◌, ◌≤◌, Bool, true, false, List, [], ◌∷◌, ◌++◌, length, refl, sym, ap, ◌∙◌, subst, arith}
+use Rattle.std.proofs.Common.{◌≡◌, ℕ, ◌+◌, ◌-◌, ◌<◌, ◌≤◌, Bool, true, false, List, [], ◌∷◌, ◌++◌, length, refl, sym, subst, arith}
 use Rattle.std.specs.Prelude.{Option, Some, Result, min}
 use Rattle.http_frames.specs.Frames.{Request}
 use Rattle.grid_types.specs.declared.capabilities.Cap.{Cap}
 use Rattle.grid_types.specs.declared.entry.Outcome.TheVariants as outcome
 use Rattle.grid_types.specs.Calls.{Call, Reply}
 use Rattle.grid_types.specs.Tokens.{Ticket, Reservation}
-use Rattle.node_client.specs.Held.{Token}
 use Rattle.node_client.specs.Places as places
 use Rattle.node_client.specs.Places.{Place, at_start, at_bind, at_return, at_fail, at_quit, at_free, at_end, wanted_at}
 use Rattle.node_client.specs.Steps.{Step, Called, Paused}
@@ -31,7 +30,7 @@ use Rattle.conn_script.specs.Undo.{UndoWants, undo_tokens}
 use Rattle.conn_script.specs.NewSession.{poll_pause, settled}
 use Rattle.conn_script.specs.Messages.{outcome_response}
 use Rattle.conn_script.specs.Pauses.{PausesBehindPolls, ends_early, ends_early_behind, is_early_poll}
-use Rattle.conn_script.specs.Wanted.{Wanted, to_read, to_write, to_begin, to_call, to_ask, to_pause, over, call_of, call_tokens}
+use Rattle.conn_script.specs.Wanted.{Wanted, to_read, to_write, to_begin, to_call, to_pause, over, call_of, call_tokens}
 use Rattle.hub_conn.specs.declared.talk.Talk.{Talk}
 use Rattle.hub_conn.specs.declared.talk.State.{State}
 use Rattle.hub_conn.specs.declared.talk.State.TheVariants as states

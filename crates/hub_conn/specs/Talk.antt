@@ -1,5 +1,5 @@
 -- What a connection stands for, and what its calls do.
-use Rattle.std.specs.Prelude.{◌≡◌, ℕ, ◌+◌, ◌-◌, ◌<◌, ◌≤◌, min, Bool, true, false, List, [], ◌∷◌, ◌++◌, length, take, drop, Option, None, Result, Ok, Err, IfOk, IsTrue, is_some}
+use Rattle.std.specs.Prelude.{◌≡◌, ℕ, ◌+◌, ◌-◌, ◌<◌, ◌≤◌, min, Bool, true, false, List, [], ◌++◌, length, take, drop, Option, None, Result, Ok, Err, IfOk, IsTrue, is_some}
 use Rattle.std.specs.Borrow.{Bor}
 use Rattle.http_frames.specs.declared.FrameFault.{FrameFault}
 use Rattle.http_frames.specs.declared.frames.TheConstants.{LIMITS}

@@ -1,21 +1,18 @@
 -- Less is left to do after each turn.
-use Rattle.std.proofs.Common.{◌≡◌, ◌⊎◌, inl, inr, ℕ, ◌+◌, ◌-◌, ◌<◌, ◌≤◌, ◌^◌, max, Bool, true, false, List, [], ◌∷◌, ◌++◌, length, refl, sym, ap, subst, ◌∙◌, arith}
+use Rattle.std.proofs.Common.{◌≡◌, ◌⊎◌, inl, inr, ℕ, ◌+◌, ◌-◌, ◌<◌, ◌≤◌, ◌^◌, Bool, true, false, List, [], ◌∷◌, ◌++◌, refl, sym, subst, ◌∙◌, arith}
 use Rattle.std.specs.Prelude.{Option, None, Some, nat_le}
-use Rattle.std.specs.Borrow.{Bor}
 use Rattle.grid_types.specs.declared.config.HubConfig.{HubConfig}
 use Rattle.grid_types.specs.declared.entry.Entry.{Entry}
-use Rattle.grid_types.specs.declared.capabilities.Cap.{Cap}
-use Rattle.grid_types.specs.History.{clock}
 use Rattle.grid_types.specs.Legal.{legal}
 use Rattle.grid_types.specs.Permitted.{last_moment}
 use Rattle.grid_types.specs.Requests.{deadline_of}
 use Rattle.grid_types.specs.Calls.{Call, Reply}
 use Rattle.grid_types.specs.HubAnswers.{after_call, hub}
-use Rattle.grid_types.specs.Tokens.{Closing, Reservation, Ticket}
+use Rattle.grid_types.specs.Tokens.{Ticket}
 use Rattle.grid_outside.specs.Told.{later_by}
 use Rattle.start_laws.specs.Laws.{CallsKeepNewest, DeadlinesAreMoments, IsEarly, PollsAreEarly, StartsRunOut, is_enqueue}
 use Rattle.start_laws.specs.Starts.{newest_request, registered_count, starts_left}
-use Rattle.hub_core.specs.Answers.{Answers, may_lack}
+use Rattle.hub_core.specs.Answers.{may_lack}
 use Rattle.hub_core.specs.Replies.{binding_reply, failing_reply, polled_reply}
 use Rattle.hub_core.specs.declared.answers.Enqueued.{Enqueued}
 use Rattle.hub_core.specs.declared.answers.Enqueued.TheVariants as enqueued
@@ -27,11 +24,11 @@ use Rattle.conn_script.specs.declared.wants.Answer.TheVariants as told
 use Rattle.conn_script.specs.declared.wants.HubAnswer.{HubAnswer}
 use Rattle.conn_script.specs.declared.wants.HubAnswer.TheVariants as answers
 use Rattle.conn_script.specs.NewSession.{poll_pause}
-use Rattle.conn_script.specs.Pauses.{ends_early, ends_early_behind, is_early_poll}
+use Rattle.conn_script.specs.Pauses.{ends_early_behind, is_early_poll}
 use Rattle.conn_script.specs.Wanted.{FitsKind, IsAwaited, count, kind_of, piece, reply_of}
 use Rattle.conn_script.specs.Work.{HubLowers, Lowers, NoMore, Outlook, PollLowers, QueueLowers}
 use Rattle.hub_links.specs.Links.{MovesSome}
-use Rattle.local_driver.specs.World.{AnswersAt, wants_room}
+use Rattle.local_driver.specs.World.{AnswersAt}
 use Rattle.local_driver.proofs.TokenLemmas.{exact, lack_same, later_is, newest_kept}
 
 -- the outlook at a history and a moment

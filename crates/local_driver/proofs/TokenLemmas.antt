@@ -7,14 +7,11 @@ use Rattle.grid_types.specs.declared.capabilities.Cap.{Cap}
 use Rattle.grid_types.specs.Legal.{legal}
 use Rattle.grid_types.specs.Calls.{Call, Reply}
 use Rattle.grid_types.specs.HubAnswers.{after_call, hub}
-use Rattle.grid_types.specs.Laws.{is_good_reply}
 use Rattle.grid_types.specs.Tokens.{Ticket, Reservation, is_good_reservation, is_good_ticket, ticket_of}
 use Rattle.start_laws.specs.Laws.{CallsKeepNewest, PollsAreEarly, StartsRunOut, is_enqueue}
 use Rattle.start_laws.specs.Starts.{newest_request}
-use Rattle.hub_core.specs.Answers.{Answers}
 use Rattle.hub_core.specs.HubView.{HubView, past}
-use Rattle.hub_core.specs.Replies.{registering_reply, beating_reply, draining_reply, removal_reply, enqueued_reply, polled_reply, binding_reply, failing_reply, touching_reply, ending_reply, viewed_reply}
-use Rattle.hub_core.specs.Serves.{GivesGood, MayCall, hands_closing, hands_reservation, hands_ticket}
+use Rattle.hub_core.specs.Replies.{enqueued_reply, polled_reply, binding_reply, ending_reply}
 use Rattle.hub_core.specs.declared.answers.Enqueued.{Enqueued}
 use Rattle.hub_core.specs.declared.answers.Enqueued.TheVariants as enqueued
 use Rattle.hub_core.specs.declared.answers.Polled.{Polled}
@@ -26,7 +23,7 @@ use Rattle.hub_core.specs.declared.answers.Ending.TheVariants as ending
 use Rattle.node_client.specs.Held.{Token, of_ticket, of_reservation, of_closing, binding_tokens}
 use Rattle.conn_script.specs.declared.wants.HubAnswer.{HubAnswer}
 use Rattle.conn_script.specs.declared.wants.HubAnswer.TheVariants as answers
-use Rattle.conn_script.specs.Wanted.{FitsKind, Keeps, answer_tokens, call_tokens, ending_tokens, enqueued_tokens, is_rightful, is_spent, kind_of, polled_tokens, reply_of}
+use Rattle.conn_script.specs.Wanted.{Keeps, answer_tokens, call_tokens, ending_tokens, enqueued_tokens, is_rightful, polled_tokens, reply_of}
 use Rattle.hub_conn.specs.CallLaws.{AreBeside, IsBeside}
 use Rattle.local_driver.specs.World.{AnswersAt}
 use Rattle.local_driver.specs.Calls.{Made, MayMake, ServesOn}

@@ -1,9 +1,8 @@
 -- What one turn does, by what was wanted.
-use Rattle.std.proofs.Common.{◌≡◌, ℕ, ◌+◌, ◌<◌, ◌≤◌, Bool, true, false, List, [], ◌∷◌, ◌++◌, length, refl, sym, ap, subst, ◌∙◌, append-nil, length-append, arith}
-use Rattle.std.specs.Prelude.{Option, None, Some, IfSome, Result, Ok, Err, OnErr, OnOk, is_some}
+use Rattle.std.proofs.Common.{◌≡◌, ℕ, ◌<◌, ◌≤◌, Bool, true, false, List, [], ◌∷◌, ◌++◌, length, refl, sym, ap, subst, ◌∙◌, append-nil, length-append, arith}
+use Rattle.std.specs.Prelude.{Option, None, Some, IfSome, Result, Err, is_some}
 use Rattle.std.specs.Borrow.{Bor}
 use Rattle.grid_types.specs.declared.entry.Entry.{Entry}
-use Rattle.grid_types.specs.declared.text.NoMemory.{NoMemory}
 use Rattle.grid_types.specs.Calls.{Call, Reply}
 use Rattle.grid_types.specs.Tokens.{Closing}
 use Rattle.grid_types.specs.Legal.{legal}
@@ -13,9 +12,8 @@ use Rattle.grid_outside.specs.declared.exchange.Ask.{Ask}
 use Rattle.grid_outside.specs.Exchanges.{Came, ask_of}
 use Rattle.http_frames.specs.declared.writing.NodeRequest.{NodeRequest}
 use Rattle.start_laws.specs.Laws.{CallsKeepNewest, DeadlinesAreMoments, PollsAreEarly, StartsRunOut, is_enqueue}
-use Rattle.start_laws.specs.Starts.{newest_request}
 use Rattle.hub_core.specs.HubView.{HubView, past}
-use Rattle.node_client.specs.Held.{Token, of_ticket}
+use Rattle.node_client.specs.Held.{Token}
 use Rattle.node_client.specs.Steps.{Step, Called, Exchanged, Paused}
 use Rattle.conn_script.specs.Begin as begin
 use Rattle.conn_script.specs.Begin.{AsksToEnd, BeginLacks, Begins, Expires}
@@ -33,11 +31,11 @@ use Rattle.conn_script.specs.declared.wants.Want.TheVariants as wants
 use Rattle.conn_script.specs.Pauses.{ends_early, ends_early_behind, is_early_poll}
 use Rattle.grid_types.specs.declared.config.HubConfig.{HubConfig}
 use Rattle.conn_script.specs.Work.{Outlook}
-use Rattle.conn_script.specs.Wanted.{Awaited, Fits, IsAwaited, Made, Readies, Shows, Wanted, bytes_in, call_of, call_step, call_tokens, count, finds_spent, is_spent, over, piece, reply_of, taken_of, to_ask, to_begin, to_call, to_pause, to_read, to_write}
+use Rattle.conn_script.specs.Wanted.{Awaited, Fits, IsAwaited, Made, Readies, Shows, Wanted, bytes_in, call_of, call_step, call_tokens, count, is_spent, over, piece, reply_of, taken_of, to_ask, to_begin, to_call, to_pause, to_read, to_write}
 use Rattle.hub_conn.specs.declared.talk.Talk.{Talk}
-use Rattle.hub_conn.specs.CallLaws.{CallLaws, HoldsNoneAt}
+use Rattle.hub_conn.specs.CallLaws.{CallLaws}
 use Rattle.hub_conn.specs.WantLaws.{WantLaws}
-use Rattle.hub_conn.specs.Talk.{Cause, Feeds, HandsOut, IsHeld, KeepsTokens, Says, Stands, StandsForSome, Takes, awaited, blamed, cause_after, cause_of, held, result_cause, tokens}
+use Rattle.hub_conn.specs.Talk.{Cause, Feeds, HandsOut, IsHeld, Says, Stands, StandsForSome, Takes, awaited, blamed, cause_after, cause_of, held, result_cause, tokens}
 use Rattle.hub_conn.specs.Work.{work}
 use Rattle.hub_links.specs.Links.{DoesLink, LinkView, MovesSome, RoseFor}
 use Rattle.hub_links.specs.LinkLaws.{Adds, IsPlain, caused_on, plain_tokens, read_adds, write_adds}
@@ -45,11 +43,11 @@ use Rattle.local_driver.specs.Calls as calls
 use Rattle.local_driver.specs.Calls.{MayMake}
 use Rattle.local_driver.specs.World.{Went, WentBy, World, world_of}
 use Rattle.local_driver.specs.Outside.{Onward, Outside, outlook_of, outside_of}
-use Rattle.local_driver.specs.Serving.{Has, HasAll, Serving, Turned}
+use Rattle.local_driver.specs.Serving.{HasAll, Serving, Turned}
 use Rattle.local_driver.proofs.LessLemmas.{PollsNewest, early_ahead, hub_lowers, no_more_same, outlook, one_last, pause_lowers, read_lowers, write_lowers}
-use Rattle.local_driver.proofs.OnwardLemmas.{onward_link, onward_more, onward_none, onward_world}
+use Rattle.local_driver.proofs.OnwardLemmas.{onward_link, onward_more, onward_world}
 use Rattle.local_driver.proofs.TokenLemmas.{has_left, has_right, held_after, may_make}
-use Rattle.local_driver.proofs.WayLemmas.{Serves, Ticks, went_call, went_exchange, went_pause}
+use Rattle.local_driver.proofs.WayLemmas.{Ticks, went_call, went_exchange, went_pause}
 
 never : false ≡ true → ⊥
 never e = cc

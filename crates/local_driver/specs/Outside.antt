@@ -1,5 +1,5 @@
 -- What a driver of a connection has outside of it, and how that goes on.
-use Rattle.std.specs.Prelude.{ℕ, ◌-◌, List, Option}
+use Rattle.std.specs.Prelude.{ℕ, ◌-◌, List}
 use Rattle.grid_types.specs.Permitted.{last_moment}
 use Rattle.grid_outside.specs.declared.exchange.Ask.{Ask}
 use Rattle.grid_outside.specs.Exchanges.{Came}

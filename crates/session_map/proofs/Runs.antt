@@ -2,7 +2,6 @@
 use Rattle.std.proofs.Common.{◌≡◌, ℕ, Bool, true, false, List, refl, ap, subst, arith}
 use Rattle.std.specs.Prelude.{Option, None, Some, is_some, option_map}
 use Rattle.grid_types.specs.declared.entry.Entry.{Entry}
-use Rattle.grid_types.specs.declared.names.SlotId.{SlotId}
 use Rattle.grid_types.specs.Lists.{kept}
 use Rattle.grid_types.specs.Bindings.{Running, bound_of}
 use Rattle.grid_types.specs.Sessions.{is_live, active}

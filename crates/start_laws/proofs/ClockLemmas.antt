@@ -1,5 +1,5 @@
 -- No call moves the clock past its moment, and a request waits no longer than it may.
-use Rattle.std.proofs.Common.{◌≡◌, ℕ, max, Bool, true, false, cond, not, ◌&&◌, ◌||◌, ◌+◌, ◌≤◌, List, [], ◌∷◌, ◌++◌, map, length, refl, sym, ◌∙◌, arith}
+use Rattle.std.proofs.Common.{◌≡◌, ℕ, max, Bool, true, false, cond, not, ◌&&◌, ◌||◌, ◌+◌, ◌≤◌, List, [], ◌∷◌, ◌++◌, map, length, refl, arith}
 use Rattle.std.specs.Prelude.{Option, None, Some, unwrap_or, nat_eq, nat_le, nat_lt, find, ◌-◌, ◌^◌}
 use Rattle.std.specs.List.{list_all}
 use Rattle.grid_types.specs.declared.config.HubConfig.{HubConfig}
@@ -18,11 +18,10 @@ use Rattle.grid_types.specs.History.{after, clock, moment_of, next_node, next_re
 use Rattle.grid_types.specs.Nodes.{is_base_up, is_draining, is_registered, is_spent}
 use Rattle.grid_types.specs.Slots.{listed}
 use Rattle.grid_types.specs.Bindings.{Running, bound_of}
-use Rattle.grid_types.specs.Requests.{deadline_of, is_settled, outcome_of, unsettled, unsettled_bytes, waiting_requests}
-use Rattle.grid_types.specs.Sessions.{is_live_session, live}
-use Rattle.grid_types.specs.Matching.{meets}
+use Rattle.grid_types.specs.Requests.{deadline_of, outcome_of, unsettled, unsettled_bytes, waiting_requests}
+use Rattle.grid_types.specs.Sessions.{live}
 use Rattle.grid_types.specs.Choice.{Assignment, chosen}
-use Rattle.grid_types.specs.Permitted.{deadline_at, is_named, is_supported, most_bytes, wanted_of}
+use Rattle.grid_types.specs.Permitted.{deadline_at, is_named, is_supported, most_bytes}
 use Rattle.grid_types.specs.Capabilities.{request_bytes}
 use Rattle.grid_types.specs.Tokens.{Closing, Ticket}
 use Rattle.grid_types.specs.Calls.{Call, Reply}

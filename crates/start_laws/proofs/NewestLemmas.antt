@@ -17,11 +17,10 @@ use Rattle.grid_types.specs.History.{after, clock, next_node, next_request, node
 use Rattle.grid_types.specs.Nodes.{is_base_up, is_draining, is_registered, is_spent}
 use Rattle.grid_types.specs.Slots.{listed}
 use Rattle.grid_types.specs.Bindings.{Running, bound_of}
-use Rattle.grid_types.specs.Requests.{deadline_of, is_settled, outcome_of, unsettled, unsettled_bytes, waiting_requests}
-use Rattle.grid_types.specs.Sessions.{is_live_session, live}
-use Rattle.grid_types.specs.Matching.{meets}
+use Rattle.grid_types.specs.Requests.{deadline_of, outcome_of, unsettled, unsettled_bytes, waiting_requests}
+use Rattle.grid_types.specs.Sessions.{live}
 use Rattle.grid_types.specs.Choice.{Assignment, chosen}
-use Rattle.grid_types.specs.Permitted.{is_named, is_supported, most_bytes, wanted_of}
+use Rattle.grid_types.specs.Permitted.{is_named, is_supported, most_bytes}
 use Rattle.grid_types.specs.Capabilities.{request_bytes}
 use Rattle.grid_types.specs.Tokens.{Closing, Ticket}
 use Rattle.grid_types.specs.Calls.{Call, Reply}

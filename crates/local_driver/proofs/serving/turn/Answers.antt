@@ -1,4 +1,4 @@
-use Rattle.std.proofs.Common.{◌∙◌, refl, sym}
+use Rattle.std.proofs.Common.{◌∙◌, sym}
 use Rattle.local_driver.proofs.TurnLemmas.{begun_less, begun_turn, hub_less, hub_turn, lacks_turn, node_less, node_turn, over_turn, pause_less, pause_turn, read_less, read_turn, write_less, write_turn}
 use Rattle.local_driver.proofs.BeginLemmas.{on_err, on_ok}
 use Rattle.local_driver.proofs.WayLemmas.{ticked}

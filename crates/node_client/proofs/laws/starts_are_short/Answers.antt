@@ -1,4 +1,4 @@
-use Rattle.std.proofs.Common.{ℕ, ◌≤◌, arith}
+use Rattle.std.proofs.Common.{◌≤◌, arith}
 use Rattle.node_client.specs.declared.carry.Carry.{Carry}
 use Rattle.node_client.specs.declared.carry.State.{State}
 use Rattle.node_client.specs.declared.carry.State.TheVariants as states

@@ -1,5 +1,3 @@
-use Rattle.std.proofs.Common.{◌≡◌, ◌+◌, ◌-◌, ◌^◌, length, take, min, arith}
-use Rattle.grid_types.specs.Nodes.{stereotypes}
 use Rattle.grid_ledger.proofs.SlotLemmas.{groups_more, added}
 use Rattle.grid_ledger.proofs.ledger.nodes.slot_count.Goals as goal
 
