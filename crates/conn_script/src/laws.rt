@@ -1,4 +1,6 @@
 //! What the definitions of scripts say.
+ghost use Rattle.std.specs.Prelude.{◌≡◌, ◌^◌};
+ghost use Rattle.conn_script.specs.declared.wants.TheConstants.{LIMIT, PAUSE, PIECE};
 ghost use Rattle.conn_script.specs.Pauses.{PausesBehindPolls};
 ghost use Rattle.conn_script.specs.SpentLooks.{SpentLaws};
 
@@ -17,3 +19,11 @@ pub fn scripts_pause_behind_polls()
 {
     starts_spend_all();
 }
+
+/// The number behind each name of a limit, since definitions cite the names: bytes of a piece and of a connection, and
+/// milliseconds between two polls.
+pub fn fixed_limits()
+    ensures piece { PIECE ≡ 65536 }
+    ensures read { LIMIT ≡ 2 ^ 40 }
+    ensures pause { PAUSE ≡ 15 }
+{}

@@ -20,7 +20,7 @@ mod work;
 pub use calling::{Asked, Calling};
 pub use creating::Creating;
 pub use deleting::{Deleting, Quitted};
-pub use laws::{scripts_find_spent_last, scripts_pause_behind_polls};
+pub use laws::{fixed_limits, scripts_find_spent_last, scripts_pause_behind_polls};
 pub use relaying::Relaying;
 pub use request::Whole;
 pub use responses::refusal;

@@ -1,5 +1,6 @@
 //! The looks at the driver, with what is told to the hub after each.
 ghost use Rattle.std.specs.Prelude.{◌≡◌, IfOk};
+ghost use Rattle.grid_attach.specs.declared.attaching.TheConstants.{BEAT_MS, RETRY_MS};
 ghost use Rattle.grid_attach.specs.Looks.{Attached, IsLook, SignIs, wait_after};
 
 use crate::driver::is_ready;
@@ -13,6 +14,12 @@ pub const BEAT_MS: u64 = 30_000;
 
 /// Milliseconds until the next look where the node is not registered.
 pub const RETRY_MS: u64 = 1_000;
+
+/// The milliseconds of both, since definitions cite the constants. It does nothing.
+pub fn fixed_times()
+    ensures beat { BEAT_MS ≡ 30000 }
+    ensures retry { RETRY_MS ≡ 1000 }
+{}
 
 /// Tells the hub that the node is there: by a beat where it is registered, else by its registration. Gives the number that
 /// the node has at the hub then, if it has one.

@@ -1,7 +1,16 @@
 //! The laws of the format, each as the contract of a function that does nothing.
+ghost use Rattle.std.specs.Prelude.{◌≡◌};
+ghost use Rattle.grid_journal.specs.declared.head.TheConstants.{HEAD_BYTES};
+ghost use Rattle.grid_journal.specs.declared.reading.TheConstants.{MOST_ENTRY_BYTES};
 ghost use Rattle.grid_journal.specs.EntryReads.{OneSpelling};
 
 /// No spelling of an entry begins that of another.
 pub fn one_spelling()
     ensures { OneSpelling }
+{}
+
+/// The number behind each name of a size in bytes, since definitions cite the names.
+pub fn fixed_sizes()
+    ensures head { HEAD_BYTES ≡ 57 }
+    ensures entry { MOST_ENTRY_BYTES ≡ 20971520 }
 {}

@@ -20,6 +20,6 @@ mod texts;
 mod writing;
 
 pub use head::{HEAD_BYTES, HeadStep, read_head, write_head};
-pub use laws::one_spelling;
+pub use laws::{fixed_sizes, one_spelling};
 pub use reading::{EntryStep, MOST_ENTRY_BYTES, read_entry};
 pub use writing::{WriteFault, write_entry};

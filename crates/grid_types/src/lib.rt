@@ -26,10 +26,10 @@ pub use laws::{
 pub use limits::{
     LAST_MOMENT, LEAST_IDLE_MS, LEAST_LAPSE_MS, LEAST_QUEUE_TIME_MS, MOST_CHOICES, MOST_DOWN_MS,
     MOST_DRAIN_AFTER, MOST_IDLE_MS, MOST_LAPSE_MS, MOST_NAME_BYTES, MOST_NODES, MOST_QUEUE_BYTES,
-    MOST_QUEUE_TIME_MS, MOST_REQUESTS, MOST_SESSIONS, MOST_SLOTS,
+    MOST_QUEUE_TIME_MS, MOST_REQUESTS, MOST_SESSIONS, MOST_SLOTS, fixed_limits,
 };
 pub use names::{Moment, NodeAddress, NodeNo, ReqNo, SessionId, SlotId, Words};
-pub use queue_time::{QUEUE_TIME_NAME, time_of_value, time_to_wait};
+pub use queue_time::{QUEUE_TIME_NAME, queue_time_name, time_of_value, time_to_wait};
 pub use request_size::request_bytes;
 pub use spent::Spent;
 pub use text::{Bytes, NoMemory, Text};

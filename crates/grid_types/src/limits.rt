@@ -1,4 +1,6 @@
 //! The limits of what callers hand in and of what a hub keeps, each named once.
+ghost use Rattle.std.specs.Prelude.{◌≡◌, ◌-◌, ◌^◌};
+ghost use Rattle.grid_types.specs.declared.limits.TheConstants.{LAST_MOMENT, LEAST_IDLE_MS, LEAST_LAPSE_MS, LEAST_QUEUE_TIME_MS, MOST_CHOICES, MOST_DOWN_MS, MOST_DRAIN_AFTER, MOST_IDLE_MS, MOST_LAPSE_MS, MOST_NAME_BYTES, MOST_NODES, MOST_QUEUE_BYTES, MOST_QUEUE_TIME_MS, MOST_REQUESTS, MOST_SESSIONS, MOST_SLOTS};
 
 /// The most alternative lists of capabilities that a request may have.
 pub const MOST_CHOICES: usize = 64;
@@ -47,3 +49,23 @@ pub const MOST_DOWN_MS: u64 = 172_800_000;
 
 /// The greatest count of sessions after which a node may ask to be drained.
 pub const MOST_DRAIN_AFTER: u32 = 1_000_000;
+
+/// The number behind each name, since definitions cite the names. It does nothing.
+pub fn fixed_limits()
+    ensures choices { MOST_CHOICES ≡ 64 }
+    ensures slots { MOST_SLOTS ≡ 64 }
+    ensures sessions { MOST_SESSIONS ≡ 64 }
+    ensures name_bytes { MOST_NAME_BYTES ≡ 64 }
+    ensures nodes { MOST_NODES ≡ 1024 }
+    ensures requests { MOST_REQUESTS ≡ 10000 }
+    ensures queue_bytes { MOST_QUEUE_BYTES ≡ 268435456 }
+    ensures moment { LAST_MOMENT ≡ 2 ^ 62 - 1 }
+    ensures least_queue_time { LEAST_QUEUE_TIME_MS ≡ 1000 }
+    ensures most_queue_time { MOST_QUEUE_TIME_MS ≡ 86400000 }
+    ensures least_idle { LEAST_IDLE_MS ≡ 10000 }
+    ensures most_idle { MOST_IDLE_MS ≡ 86400000 }
+    ensures least_lapse { LEAST_LAPSE_MS ≡ 1000 }
+    ensures most_lapse { MOST_LAPSE_MS ≡ 86400000 }
+    ensures most_down { MOST_DOWN_MS ≡ 172800000 }
+    ensures drain_after { MOST_DRAIN_AFTER ≡ 1000000 }
+{}

@@ -1,9 +1,10 @@
 //! How long a request may wait, by the extension capability `grid:queueTimeout` of its choices.
-ghost use Rattle.std.specs.Prelude.{◌≡◌, List, ℕ, Option};
+ghost use Rattle.std.specs.Prelude.{◌≡◌, List, ℕ, Option, codes};
 ghost use Rattle.std.specs.List.{list_all};
 ghost use Rattle.std.specs.Char.{is_ascii_digit};
 ghost use Rattle.std.specs.Str.Parse.{digits_value};
 ghost use Rattle.grid_types.specs.declared.capabilities.Cap.{Cap};
+ghost use Rattle.grid_types.specs.declared.queue_time.TheConstants.{QUEUE_TIME_NAME};
 ghost use Rattle.grid_types.specs.Lists.{first_some, when};
 ghost use Rattle.grid_types.specs.QueueTime.{is_queue_time, queue_time_of, asked_time, queue_time};
 
@@ -13,6 +14,11 @@ use crate::limits::{LEAST_QUEUE_TIME_MS, MOST_QUEUE_TIME_MS};
 
 /// The extension capability by which a request asks for a time of its own, in milliseconds.
 pub const QUEUE_TIME_NAME: &str = "grid:queueTimeout";
+
+/// The letters of that name, since definitions cite the constant. It does nothing.
+pub fn queue_time_name()
+    ensures { QUEUE_TIME_NAME.now ≡ codes "grid:queueTimeout" }
+{}
 
 fn are_digits(bytes: &[u8]) -> bool
     ensures { result ≡ list_all is_ascii_digit bytes.now }

@@ -1,11 +1,14 @@
 //! Laws about the framing that its users stand on. The functions do nothing: each contract is a law.
-ghost use Rattle.std.specs.Prelude.{◌≡◌, ◌≢◌, ◌<◌, ◌++◌, ℕ, false, length, List, Bool, [], ◌∷◌, Option, All};
+ghost use Rattle.std.specs.Prelude.{◌≡◌, ◌≢◌, ◌<◌, ◌++◌, ℕ, false, length, List, Bool, [], ◌∷◌, Option, All, codes};
 ghost use Rattle.std.specs.Borrow.{Bor};
 ghost use Rattle.httparse.specs.Grammar.{RequestHead, IsRequestHead, ResponseHead, IsResponseHead, reason_phrase};
 ghost use Rattle.http_frames.specs.declared.FrameFault.{FrameFault};
 ghost use Rattle.http_frames.specs.declared.frames.FrameLimits.{FrameLimits};
 ghost use Rattle.http_frames.specs.declared.frames.Step.{Step};
 ghost use Rattle.http_frames.specs.declared.reader.ReaderStep.{ReaderStep};
+ghost use Rattle.http_frames.specs.declared.chunks.TheConstants.{MAX_CHUNK_LINE, MAX_TRAILERS};
+ghost use Rattle.http_frames.specs.declared.frames.TheConstants.{LIMITS};
+ghost use Rattle.http_frames.specs.declared.writing.TheConstants.{CONTINUE};
 ghost use Rattle.http_frames.specs.FrameSteps.{IsToldExactly};
 ghost use Rattle.http_frames.specs.Feeding.{IsReaderStep, IsAlike};
 ghost use Rattle.http_frames.specs.Fields.{headers_of, values_of};
@@ -77,4 +80,14 @@ pub fn read_is_writable()
     ensures request { (h : RequestHead) (name : List ℕ) → IsRequestHead h → All IsValue (values_of name (headers_of h)) }
     ensures response { (h : ResponseHead) (name : List ℕ) → IsResponseHead h → All IsValue (values_of name (reply_headers h)) }
     ensures reason { (h : ResponseHead) → IsResponseHead h → IsPhrase (reason_phrase h.reason) }
+{}
+
+/// The numbers behind the names of limits and the bytes of the interim response (RFC 9110, section 15.2.1), since
+/// definitions cite the names.
+pub fn fixed_limits()
+    ensures head { LIMITS.head ≡ 65536 }
+    ensures body { LIMITS.body ≡ 16777216 }
+    ensures chunk_line { MAX_CHUNK_LINE ≡ 4096 }
+    ensures trailers { MAX_TRAILERS ≡ 65536 }
+    ensures interim { CONTINUE.now ≡ codes "HTTP/1.1 100 Continue\r\n\r\n" }
 {}

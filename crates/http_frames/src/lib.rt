@@ -21,7 +21,7 @@ pub use crate::frames::{
     Body, Frame, FrameLimits, Head, LIMITS, Parts, Step, expects_continue, next_request,
 };
 pub use crate::laws::{
-    one_answer, one_head, one_reading, read_is_writable, stays, written_is_read,
+    fixed_limits, one_answer, one_head, one_reading, read_is_writable, stays, written_is_read,
 };
 pub use crate::plain::{PlainFrame, plain_request};
 pub use crate::reader::{FrameReader, ReaderStep};

@@ -5,6 +5,8 @@ ghost use Rattle.serde_json.specs.Data.{string};
 ghost use Rattle.json_spans.specs.Grammar.{Char, quoted, AreChars};
 ghost use Rattle.json_spans.specs.Characters.{meaning};
 ghost use Rattle.json_spans.specs.OneWay.{ReadOneWay, RefusedOneWay, NotBoth};
+ghost use Rattle.json_spans.specs.declared.machine.TheConstants.{MAX_DEPTH};
+ghost use Rattle.json_spans.specs.declared.object.TheConstants.{MAX_MEMBERS};
 
 /// `serde_json` reads each string of RFC 8259 as the characters that it stands for. So two names of an object are one
 /// exactly where their characters are.
@@ -23,4 +25,10 @@ pub fn a_text_is_read_one_way()
 pub fn a_text_is_refused_one_way()
     ensures fault { (bytes : List ℕ) → RefusedOneWay bytes }
     ensures read { (bytes : List ℕ) → NotBoth bytes }
+{}
+
+/// The number behind each name of a limit, since definitions cite the names.
+pub fn fixed_limits()
+    ensures depth { MAX_DEPTH ≡ 127 }
+    ensures members { MAX_MEMBERS ≡ 1024 }
 {}

@@ -37,7 +37,9 @@ pub use count::element_count;
 pub use element_list::ElementList;
 pub use fault::JsonFault;
 pub use kind::Kind;
-pub use laws::{a_text_is_read_one_way, a_text_is_refused_one_way, strings_are_characters};
+pub use laws::{
+    a_text_is_read_one_way, a_text_is_refused_one_way, fixed_limits, strings_are_characters,
+};
 pub use list::elements;
 pub use machine::MAX_DEPTH;
 pub use member_list::MemberList;

@@ -9,6 +9,7 @@
 #![tactic(auto)]
 
 mod incoming;
+mod laws;
 mod links;
 mod node;
 mod paths;
@@ -16,6 +17,7 @@ mod reading;
 mod replies;
 mod serving;
 
+pub use laws::fixed_limits;
 pub use links::{LoopList, LoopNodes};
 pub use node::LoopNode;
 pub use serving::{NodeFault, serve_node};

@@ -9,4 +9,4 @@ mod signs;
 pub use body::registration_body;
 pub use contact::Contact;
 pub use number::number_told;
-pub use signs::{Beat, SERVED, register, send_beat};
+pub use signs::{Beat, SERVED, fixed_status, register, send_beat};

@@ -2,6 +2,7 @@
 ghost use Rattle.std.specs.Prelude.{◌≡◌, OnOk};
 ghost use Rattle.grid_outside.specs.declared.exchange.Reply.TheVariants as reply_of;
 ghost use Rattle.grid_outside.specs.Exchanges.{Came};
+ghost use Rattle.node_signs.specs.declared.signs.TheConstants.{SERVED};
 ghost use Rattle.node_signs.specs.Signs.{ask_to_beat, ask_to_post, ask_to_register, BeatIs, RegisterIs};
 
 use crate::number::number_told;
@@ -12,6 +13,11 @@ use wd_bodies::{BEFORE_NODE, JSON_TYPE, NODES};
 
 /// The status of a request that was served (RFC 9110 §15.3.1).
 pub const SERVED: u16 = 200;
+
+/// The number of that status, since definitions cite the constant. It does nothing.
+pub fn fixed_status()
+    ensures { SERVED ≡ 200 }
+{}
 
 /// What came of a beat.
 #[derive(Clone, Copy, Debug, PartialEq, Eq)]

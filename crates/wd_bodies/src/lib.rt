@@ -22,8 +22,8 @@ pub use capabilities::{caps_text, json_text};
 pub use code::{ErrorCode, phrase_of, status_of};
 pub use headers::{JSON_TYPE, NO_CACHE};
 pub use laws::{
-    capabilities_are_read_again, created_are_read_again, errors_are_read_again,
-    starts_are_read_again, values_are_read_again,
+    capabilities_are_read_again, created_are_read_again, errors_are_read_again, fixed_headers,
+    fixed_messages, fixed_paths, starts_are_read_again, values_are_read_again,
 };
 pub use messages::{
     HUB_SPENT, NO_COMMAND, NO_METHOD, NO_NODE, NO_SESSION, NO_SLOT_MATCHES, NODE_NOT_HTTP,
