@@ -1,5 +1,5 @@
 //! The table of nodes. Calls of `history_laws` are for the proofs alone.
-ghost use Rattle.std.specs.Prelude.{◌≡◌, ◌+◌, ℕ, [], true, false, ◌&&◌, not, if◌then◌else◌, map, min, IsOk, OnOk, OnErr, Some, option_map, length, slice_get, find};
+ghost use Rattle.std.specs.Prelude.{◌≡◌, ◌+◌, ℕ, [], true, false, ◌&&◌, not, if◌then◌else◌, map, min, IsOk, OnOk, OnErr, Some, None, option_map, length, slice_get, find};
 ghost use Rattle.std.specs.List.{list_any, reduce};
 ghost use Rattle.std.specs.Option.{option_copied};
 ghost use Rattle.grid_types.specs.declared.entry.Change.TheVariants as change;
@@ -472,7 +472,8 @@ impl NodeTable {
 
     /// How the node stands. It takes no memory.
     pub fn standing(&self, node: NodeNo) -> Option<Standing>
-        ensures { Tells Stands self.now (λ H. is_listed H node ≡ true → result ≡ standing_of H node) }
+        ensures listed { Tells Stands self.now (λ H. is_listed H node ≡ true → result ≡ standing_of H node) }
+        ensures unknown { knows self.now node ≡ false → result ≡ None }
     {
         history_laws();
         Some(self.nodes.get(&node)?.standing())
@@ -480,7 +481,8 @@ impl NodeTable {
 
     /// Whether as many sessions were bound on a listed node as it drains after. It takes no memory.
     pub fn is_spent(&self, node: NodeNo) -> bool
-        ensures { Tells Stands self.now (λ H. is_listed H node ≡ true → result ≡ is_spent H node) }
+        ensures listed { Tells Stands self.now (λ H. is_listed H node ≡ true → result ≡ is_spent H node) }
+        ensures unknown { knows self.now node ≡ false → result ≡ false }
     {
         history_laws();
         match self.nodes.get(&node) {
@@ -492,7 +494,8 @@ impl NodeTable {
     /// Whether the sessions that were bound on a listed node and its held slots, so many, are together fewer than it
     /// drains after. It takes no memory.
     pub fn has_sessions_left(&self, node: NodeNo, held: u16) -> bool
-        ensures { Tells Stands self.now (λ H. is_listed H node ≡ true → held ≡ held_count H node → result ≡ has_sessions_left H node) }
+        ensures listed { Tells Stands self.now (λ H. is_listed H node ≡ true → held ≡ held_count H node → result ≡ has_sessions_left H node) }
+        ensures unknown { knows self.now node ≡ false → result ≡ false }
     {
         history_laws();
         match self.nodes.get(&node) {
@@ -503,7 +506,8 @@ impl NodeTable {
 
     /// The moment of the node's last sign. It takes no memory.
     pub fn beat(&self, node: NodeNo) -> Option<Moment>
-        ensures { Tells Stands self.now (λ H. is_listed H node ≡ true → result ≡ Some (record { 0 = beat_of H node })) }
+        ensures listed { Tells Stands self.now (λ H. is_listed H node ≡ true → result ≡ Some (record { 0 = beat_of H node })) }
+        ensures unknown { knows self.now node ≡ false → result ≡ None }
     {
         history_laws();
         Some(self.nodes.get(&node)?.beat)
@@ -511,7 +515,8 @@ impl NodeTable {
 
     /// What the node said of itself. It takes no memory.
     pub fn registration(&self, node: NodeNo) -> Option<&Registration>
-        ensures { Tells Stands self.now (λ H. is_listed H node ≡ true → option_copied result ≡ registration_of H node) }
+        ensures listed { Tells Stands self.now (λ H. is_listed H node ≡ true → option_copied result ≡ registration_of H node) }
+        ensures unknown { knows self.now node ≡ false → result ≡ None }
     {
         Some(&self.nodes.get(&node)?.registration)
     }

@@ -226,6 +226,7 @@ impl HubTables {
     pub fn note_taken(&mut self, request: ReqNo, at: Moment) -> Option<Outcome>
         ensures noted { (caller : ℕ) → Notes self.old self.new caller (change.Taken request at) }
         ensures outcome { Tells self.old (λ H. (o : Settling) → place H request ≡ settled o → result ≡ Some o) }
+        ensures only { Tells self.old (λ H. (o : Settling) → result ≡ Some o → place H request ≡ settled o) }
     {
         table_laws();
         let outcome = self.requests.taken(request, at);

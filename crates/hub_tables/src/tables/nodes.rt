@@ -1,5 +1,5 @@
 //! What the tables tell of nodes and their slots.
-ghost use Rattle.std.specs.Prelude.{◌≡◌, ◌≤◌, true, nat_le, find, length, map, IfOk, IfSome, Some};
+ghost use Rattle.std.specs.Prelude.{◌≡◌, ◌≤◌, true, false, nat_le, find, length, map, IfOk, IfSome, None, Some};
 ghost use Rattle.std.specs.Option.{option_copied};
 ghost use Rattle.grid_types.specs.History.{nodes};
 ghost use Rattle.grid_types.specs.HubAnswers.{lapsed_nodes, silent_nodes, drained_nodes};
@@ -8,7 +8,7 @@ ghost use Rattle.grid_types.specs.Overview.{view_of};
 ghost use Rattle.grid_types.specs.Permitted.{is_named};
 ghost use Rattle.grid_types.specs.Slots.{holder, is_listed, listed, slots_of};
 ghost use Rattle.reservation.specs.Table.{IsUseOf, holder_of};
-ghost use Rattle.hub_tables.specs.Tables.{Keeps, NotesSigns, Tells};
+ghost use Rattle.hub_tables.specs.Tables.{HasNoRow, Keeps, NotesSigns, Tells};
 
 use crate::tables::HubTables;
 use grid_types::{HubConfig, Moment, NoMemory, NodeNo, Registration, SlotId, Text, View};
@@ -40,21 +40,24 @@ impl HubTables {
 
     /// The moment of a listed node's last sign. It takes no memory.
     pub fn beat(&self, node: NodeNo) -> Option<Moment>
-        ensures { Tells self.now (λ H. is_listed H node ≡ true → result ≡ Some (record { 0 = beat_of H node })) }
+        ensures listed { Tells self.now (λ H. is_listed H node ≡ true → result ≡ Some (record { 0 = beat_of H node })) }
+        ensures unknown { HasNoRow self.now node → result ≡ None }
     {
         self.nodes.beat(node)
     }
 
     /// Whether as many sessions were bound on a listed node as it drains after. It takes no memory.
     pub fn is_spent(&self, node: NodeNo) -> bool
-        ensures { Tells self.now (λ H. is_listed H node ≡ true → result ≡ is_spent H node) }
+        ensures listed { Tells self.now (λ H. is_listed H node ≡ true → result ≡ is_spent H node) }
+        ensures unknown { HasNoRow self.now node → result ≡ false }
     {
         self.nodes.is_spent(node)
     }
 
     /// What a listed node said of itself. It takes no memory.
     pub fn registration(&self, node: NodeNo) -> Option<&Registration>
-        ensures { Tells self.now (λ H. is_listed H node ≡ true → option_copied result ≡ registration_of H node) }
+        ensures listed { Tells self.now (λ H. is_listed H node ≡ true → option_copied result ≡ registration_of H node) }
+        ensures unknown { HasNoRow self.now node → result ≡ None }
     {
         self.nodes.registration(node)
     }

@@ -9,3 +9,6 @@ returns-clause-noted c = λ k. noted c.table_laws.ensures _ _ k _
 
 pub returns-clause-outcome : goal.returns-clause-outcome
 returns-clause-outcome c = record { of = λ d H s l. c.taken-outcome.ensures.outcome.of d H s.requests_stand l }
+
+pub returns-clause-only : goal.returns-clause-only
+returns-clause-only c = record { of = λ d H s l. c.taken-outcome.ensures.only.of d H s.requests_stand l }

@@ -3,8 +3,8 @@ use Rattle.grid_types.specs.Nodes.{bound_count}
 use Rattle.node_registry.proofs.Queries.{row-tells, row-spent, listed-there}
 use Rattle.node_registry.proofs.node_table.NodeTable.is_spent.Goals as goal
 
-pub returns-in-Some : goal.returns-in-Some
-returns-in-Some c =
+pub returns-in-Some-clause-listed : goal.returns-in-Some-clause-listed
+returns-in-Some-clause-listed c =
     let proved = c.history_laws.ensures in
     record {
       of = λ c' H s l on.
@@ -12,7 +12,7 @@ returns-in-Some c =
           c.is_spent.ensures (bound_count H c.args.node) tells.bound ∙ row-spent H c.args.node c.in-Some.row.now tells;
     }
 
-pub returns-in-None : goal.returns-in-None
-returns-in-None c =
+pub returns-in-None-clause-listed : goal.returns-in-None-clause-listed
+returns-in-None-clause-listed c =
     let proved = c.history_laws.ensures in
     record { of = λ c' H s l on. listed-there proved c' H c.args.self.now c.args.node s l c.in-None.ensures.value on }
