@@ -8,8 +8,9 @@ use crate::foretold::sweeping::{clear, sweep};
 use crate::foretold::viewing::view;
 use crate::scene::Scene;
 use grid_types::{
-    Caps, Change, Choices, EndCause, Moment, NodeAddress, NodeNo, Outcome, Registration, ReqNo,
-    SessionId, SlotId, request_bytes, time_to_wait,
+    Caps, Change, Choices, EndCause, LAST_MOMENT, MOST_NODES, MOST_QUEUE_BYTES, Moment,
+    NodeAddress, NodeNo, Outcome, Registration, ReqNo, SessionId, SlotId, request_bytes,
+    time_to_wait,
 };
 use hub_trial::{
     Answer, Call, Closed, Fault, caps_of, cause_of, choices_of, registration_of, session_of,
@@ -52,15 +53,6 @@ impl Foretold {
     }
 }
 
-/// The most nodes that are listed.
-const NODES: usize = 1_024;
-
-/// The most bytes of requests that wait or are held.
-const MOST_BYTES: u64 = 268_435_456;
-
-/// The last moment of a deadline.
-const LAST: u64 = (1 << 62) - 1;
-
 pub(crate) fn small(count: usize) -> u32 {
     count.min(u32::MAX as usize) as u32
 }
@@ -69,8 +61,9 @@ fn register(alloc: Global, scene: &Scene<'_>, node: Registration) -> Result<Fore
     if let Some(number) = node_named(scene.journal, node.name.as_str()) {
         return Ok(Foretold::says(alloc, Answer::NameTaken(number)));
     }
-    if listed_node(scene.journal, NODES - 1).is_some() {
-        return Ok(Foretold::says(alloc, Answer::NodesFull { listed: 1_024 }));
+    if listed_node(scene.journal, MOST_NODES - 1).is_some() {
+        let listed = MOST_NODES as u32;
+        return Ok(Foretold::says(alloc, Answer::NodesFull { listed }));
     }
     let number = next_node(scene.config, scene.journal);
     if number == u32::MAX {
@@ -122,11 +115,11 @@ fn enqueue(alloc: Global, scene: &Scene<'_>, choices: Choices) -> Result<Foretol
     let count = small(unsettled_count(scene.journal));
     let bytes = unsettled_bytes(scene.journal);
     let all = bytes.saturating_add(request_bytes(choices.items()));
-    if count >= scene.config.queue_requests || all > MOST_BYTES {
+    if count >= scene.config.queue_requests || all > MOST_QUEUE_BYTES {
         return Ok(Foretold::says(alloc, Answer::QueueFull { count, bytes }));
     }
     let time = time_to_wait(&choices, scene.config);
-    let deadline = Moment(scene.at.0.saturating_add(time).min(LAST));
+    let deadline = Moment(scene.at.0.saturating_add(time).min(LAST_MOMENT));
     let change = Change::Queued {
         request,
         choices,

@@ -4,14 +4,12 @@ ghost use Rattle.std.specs.Prelude.{◌≡◌, ℕ, ◌-◌, ◌^◌, ◌<◌, �
 ghost use Rattle.grid_outside.specs.Exchanges.{is_within};
 
 use grid_outside::{Clock, Door, ExchangeFault, Failed, Link, NodeLink, Reply};
-use grid_types::{Moment, NodeAddress};
+use grid_types::{LAST_MOMENT, Moment, NodeAddress};
 use http_frames::{LIMITS, NodeRequest, RStep, next_response};
 use std::alloc::Global;
 use std::sync::atomic::{AtomicU64, Ordering};
 use std::thread;
 use std::time::Duration;
-
-const LATEST: u64 = (1 << 62) - 1;
 
 const NEW_SESSION: &[u8] =
     b"POST /session HTTP/1.1\r\nContent-Length: 57\r\n\r\n{\"capabilities\":{\"alwaysMatch\":{\"browserName\":\"chrome\"}}}";
@@ -133,7 +131,7 @@ impl<'a> Clock for HeldClock<'a> {
     fn pause(&mut self, ms: u64) -> Moment {
         hold(&self.rt, self.shared, self.role, !self.has_paused);
         self.has_paused = true;
-        self.last = self.last.saturating_add(ms).min(LATEST);
+        self.last = self.last.saturating_add(ms).min(LAST_MOMENT);
         Moment(self.last)
     }
 }
