@@ -5,9 +5,14 @@ Usage: first_session.py [HUB]    HUB is an address as 127.0.0.1:4444, which it i
 """
 import sys
 
-from selenium import webdriver
+try:
+    from selenium import webdriver
+except ImportError:
+    print("first_session.py: this python has no selenium: apt-get install python3-selenium, or pip install selenium", file=sys.stderr)
+    sys.exit(2)
 
 options = webdriver.ChromeOptions()
+# Chrome's own sandbox doesn't start as root, nor in most containers.
 for argument in ("--headless=new", "--no-sandbox"):
     options.add_argument(argument)
 hub = sys.argv[1] if len(sys.argv) > 1 else "127.0.0.1:4444"

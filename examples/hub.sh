@@ -1,24 +1,33 @@
 #!/bin/sh
 # Starts a hub and a node in memory on the loopback, drives one session through them with curl, shows each request with
-# its answer, and ends both.
+# its answer, and ends both. Status 0: all went well; 1: something did not; 2: wrong arguments.
 #
 # Usage: examples/hub.sh [--try] [HUB_PORT [NODE_PORT]]    by default 4444 and 5555
 # The programs are those of this checkout, proved and built where they aren't yet, which takes long the first time;
 # GRID_HUB and GRID_NODE name others. With --try they are built without being proved, with checks in them.
 set -u
 
-top=$(cd "$(dirname "$0")/.." && pwd) || exit 2
+usage() {
+    echo "usage: examples/hub.sh [--try] [HUB_PORT [NODE_PORT]]" >&2
+    exit 2
+}
+
+top=$(cd "$(dirname "$0")/.." && pwd) || exit 1
 is_try=false
 if [ "${1:-}" = --try ]; then
     is_try=true
     shift
 fi
+[ $# -le 2 ] || usage
+case ${1:-}${2:-} in
+*[!0-9]*) usage ;;
+esac
 hub_port=${1:-4444}
 node_port=${2:-5555}
 at=http://127.0.0.1:$hub_port
 hub=
 node=
-folder=$(mktemp -d) || exit 2
+folder=$(mktemp -d) || exit 1
 answer=$folder/answer
 
 # Ends what this script started, and nothing else.
@@ -88,6 +97,7 @@ expect() {
 if curl -s -o "$answer" "$at/status"; then
     fail "something answers at port $hub_port already"
 fi
+begun=$(date +%s)
 if $is_try; then
     echo "hub.sh: builds the hub and the node, which takes a few minutes" >&2
     try grid_hub --port "$hub_port" &
@@ -106,6 +116,7 @@ else
 fi
 await '"ready":' "$seconds" "$hub" grid_hub
 await '"ready":true' "$seconds" "$node" grid_node_main
+echo "hub.sh: after $(($(date +%s) - begun)) s the hub is up at $at, with a node of two slots"
 
 ask GET /status
 expect '"availability":"UP"'
@@ -120,5 +131,7 @@ ask GET /status
 expect '"state":"BUSY"'
 ask DELETE "/session/$session"
 expect '{"value":null}'
-ask GET "/session/$session/url"
-expect 'no such session'
+if curl -s "$at/session/$session/url" | grep -vq 'no such session'; then
+    fail "the session is still there"
+fi
+printf '\nhub.sh: all went well: a session was created, used and ended\n'
