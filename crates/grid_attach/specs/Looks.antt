@@ -1,7 +1,7 @@
 -- Looks at a driver, and what the hub is told after each.
 use Rattle.std.specs.Prelude.{◌≡◌, ℕ, ◌≤◌, Bool, true, false, nat_eq, List, [], ◌∷◌, length, Option, None, Some, Result, Ok, Err, IsErr, codes}
 use Rattle.grid_types.specs.declared.text.NoMemory.{NoMemory}
-use Rattle.grid_outside.specs.Told.{later_by}
+use Rattle.grid_outside.specs.Told.{ClockView, Tick, later_by, to_wait}
 use Rattle.grid_outside.specs.declared.exchange.Ask.{Ask}
 use Rattle.grid_outside.specs.declared.exchange.Reply.TheVariants as reply
 use Rattle.grid_outside.specs.declared.exchange.ExchangeFault.TheVariants as fault
@@ -65,23 +65,29 @@ pub record IsLook {N : Type 0} (gives : N → List ℕ → Ask → Came → N �
   pub shown : ReadyIs came (Ok ready)
   pub told : IsTold gives hub body ready known between now new
 
+-- the clock was asked to wait for so many milliseconds, and did
+pub record Waits {C : Type 0} (tells : C → Tick → ℕ → C → Type 0) (shows : C → ClockView) (ms : ℕ) (old new : C) : Type 0 where
+  pub at : ℕ
+  pub asked : tells old (to_wait ms) at new
+  pub long_enough : later_by (shows old).moment ms ≤ (shows new).moment
+
 -- what is so after a look and the wait behind it
-pub record Look (N : Type 0) : Type 0 where
+pub record Look (N C : Type 0) : Type 0 where
   pub known : Option ℕ
   pub nodes : N
-  pub moment : ℕ
+  pub clock : C
 
--- looks one after the other, each with the wait behind it
-abbrev pub Looks : {N : Type 0} → (N → List ℕ → Ask → Came → N → Type 0) → List ℕ → List ℕ → List ℕ →
-    Option ℕ → N → ℕ → List (Look N) → Option ℕ → N → ℕ → Type 0
-Looks gives hub driver body known old moment [] now new at = (now ≡ known) × (new ≡ old) × (at ≡ moment)
-Looks gives hub driver body known old moment (l ∷ ls) now new at =
-    IsLook gives hub driver body known old l.known l.nodes × (later_by moment (wait_after l.known) ≤ l.moment)
-    × (Looks gives hub driver body l.known l.nodes l.moment ls now new at)
+module _ {N C : Type 0} (gives : N → List ℕ → Ask → Came → N → Type 0) (tells : C → Tick → ℕ → C → Type 0) (shows : C → ClockView)
+    (hub driver body : List ℕ) where
+  -- looks one after the other, each with the wait behind it; the clock was asked nothing else
+  abbrev pub Looks : Option ℕ → N → C → List (Look N C) → Option ℕ → N → C → Type 0
+  Looks known old before [] now new after = (now ≡ known) × (new ≡ old) × (after ≡ before)
+  Looks known old before (l ∷ ls) now new after =
+      IsLook gives hub driver body known old l.known l.nodes × Waits tells shows (wait_after l.known) before l.clock
+      × Looks l.known l.nodes l.clock ls now new after
 
--- so many looks, of a node that has no number before
-pub record Attached {N : Type 0} (gives : N → List ℕ → Ask → Came → N → Type 0) (hub driver body : List ℕ)
-    (count : ℕ) (old : N) (moment : ℕ) (now : Option ℕ) (new : N) (at : ℕ) : Type 0 where
-  pub done : List (Look N)
-  pub counted : length done ≡ count
-  pub looks : Looks gives hub driver body None old moment done now new at
+  -- so many looks, of a node that has no number before
+  pub record Attached (count : ℕ) (old : N) (before : C) (now : Option ℕ) (new : N) (after : C) : Type 0 where
+    pub done : List (Look N C)
+    pub counted : length done ≡ count
+    pub looks : Looks None old before done now new after

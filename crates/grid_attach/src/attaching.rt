@@ -81,7 +81,8 @@ pub fn attach<N: NodeLink, C: Clock>(
     body: &[u8],
     looks: u64,
 ) -> Result<Option<NodeNo>, NoMemory>
-    ensures { IfOk result (λ now. Attached N.gives hub.now driver.now body.now looks nodes.old (C.moment clock.old) now nodes.new (C.moment clock.new)) }
+    ensures { IfOk result (λ now. Attached N.gives C.gives C.view hub.now driver.now body.now
+        looks nodes.old clock.old now nodes.new clock.new) }
 {
     let mut known = None;
     for _ in 0..looks {

@@ -21,8 +21,8 @@ fn attached<N: NodeLink, C: Clock>(
     clock: &mut C,
     looks: u64,
 ) -> Result<Option<NodeNo>, NoMemory>
-    ensures { IfOk result (λ now. Attached N.gives said.now.hub said.now.driver (registration_bytes (node_said said.now))
-        looks nodes.old (C.moment clock.old) now nodes.new (C.moment clock.new)) }
+    ensures { IfOk result (λ now. Attached N.gives C.gives C.view said.now.hub said.now.driver (registration_bytes (node_said said.now))
+        looks nodes.old clock.old now nodes.new clock.new) }
 {
     let node = node(alloc, said)?;
     let body = registration_body(alloc, &node)?;
@@ -47,8 +47,8 @@ pub fn attach_main<N: NodeLink, C: Clock>(
     looks: u64,
 ) -> Result<(), AttachFault>
     ensures attached { OnOk result ((now : Option ℕ)
-        × Attached N.gives (attach_said words.now).hub (attach_said words.now).driver (registration_bytes (node_said (attach_said words.now)))
-        looks nodes.old (C.moment clock.old) now nodes.new (C.moment clock.new)) }
+        × Attached N.gives C.gives C.view (attach_said words.now).hub (attach_said words.now).driver (registration_bytes (node_said (attach_said words.now)))
+        looks nodes.old clock.old now nodes.new clock.new) }
     ensures fits { OnOk result (FitsAttach words.now) }
     ensures why { IfErr result (λ f. HasCause f words.now) }
     ensures refused { IfErr result (λ f. f ≢ fault.Memory → ¬ (FitsAttach words.now)) }

@@ -2,7 +2,7 @@
 #![tactic(auto)]
 
 use grid_attach::attach_main;
-use grid_console::{NoWords, ToldNodes, words};
+use grid_console::{Asked, NoWords, ToldNodes, words};
 use grid_sockets::{MachineClock, TcpNodes};
 use server_words::{ATTACH_USAGE, AttachFault};
 use std::alloc::Global;
@@ -32,7 +32,7 @@ fn status_of(rt: HostRuntime, fault: &AttachFault) -> u8 {
     }
 }
 
-/// Puts the driver of the words behind the hub, for as long as the program runs.
+/// Puts the driver of the words behind the hub, for as long as the program runs, or tells what they ask of the program.
 fn run(rt: HostRuntime) -> u8 {
     let alloc: Global = rt.alloc();
     let words = match words(&rt) {
@@ -40,6 +40,10 @@ fn run(rt: HostRuntime) -> u8 {
         Err(NoWords::NotText) => return REFUSED,
         Err(NoWords::Memory) => return NO_MEMORY,
     };
+    if let Some(asked) = Asked::of(words.as_slice()) {
+        asked.tell(&rt, "grid_attach", ATTACH_USAGE);
+        return 0;
+    }
     let mut nodes = ToldNodes::new(rt, "grid_attach", TcpNodes::new(rt), None);
     let mut clock = MachineClock::new(rt);
     match attach_main(alloc, words.as_slice(), &mut nodes, &mut clock, u64::MAX) {

@@ -101,3 +101,7 @@ pub record IsVerdict (old new : Option (List ℕ)) (v : Verdict) : Type 0 where
   pub bytes : List ℕ
   pub gains : Gains old new bytes
   pub says : Says v bytes
+
+-- two verdicts that both hold of the same bytes are one
+abbrev pub TextsHaveOneVerdict : Type 0
+TextsHaveOneVerdict = (v w : Verdict) (bytes : List ℕ) → Says v bytes → Says w bytes → v ≡ w

@@ -12,10 +12,12 @@
 
 mod checking;
 mod feed;
+mod laws;
 mod lines;
 mod telling;
 mod verdict;
 
 pub use checking::check;
+pub use laws::texts_have_one_verdict;
 pub use telling::{NO_MEMORY, WRITE_FAILED, run_check, write_all};
 pub use verdict::{CheckFault, Verdict};

@@ -1,20 +1,34 @@
 //! Makes the journal of a simulation on standard output, or checks a journal on standard input.
 #![tactic(auto)]
 
-use grid_console::{NoWords, words};
+use grid_console::{Asked, NoWords, words};
 use grid_outside::{StandardInput, StandardOutput};
+use grid_types::Text;
 use journal_check::check_main;
 use std::alloc::Global;
 use std::process::ExitCode;
 
-fn main(rt: HostRuntime) -> ExitCode {
+/// How the program is called.
+const USAGE: &str = "\
+usage: grid_check check < JOURNAL          says whether it is the journal of a legal history
+       grid_check make NUMBER > JOURNAL    writes the journal of a number's simulation
+";
+
+/// Runs what the arguments say, or tells what they ask of the program.
+fn status_of(rt: HostRuntime, words: &[Text]) -> u8 {
+    if let Some(asked) = Asked::of(words) {
+        asked.tell(&rt, "grid_check", USAGE);
+        return 0;
+    }
     let alloc: Global = rt.alloc();
+    let mut input = StandardInput::new(&rt);
+    let mut output = StandardOutput::new(&rt);
+    check_main(alloc, words, &mut input, &mut output)
+}
+
+fn main(rt: HostRuntime) -> ExitCode {
     let status = match words(&rt) {
-        Ok(words) => {
-            let mut input = StandardInput::new(&rt);
-            let mut output = StandardOutput::new(&rt);
-            check_main(alloc, words.as_slice(), &mut input, &mut output)
-        }
+        Ok(words) => status_of(rt, words.as_slice()),
         Err(NoWords::NotText) => 8,
         Err(NoWords::Memory) => 7,
     };

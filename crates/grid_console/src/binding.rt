@@ -29,9 +29,7 @@ impl<R: Eprint + Drop, D: Door + Drop> Door for ToldBind<R, D> {
 
     type C = D::C;
 
-    ghost faults = { λ d. D.faults d.door };
-
-    ghost ends = { λ d. D.ends d.door };
+    ghost view = { λ d. D.view d.door };
 
     fn bind(&mut self, port: u16) -> Result<(), Failed> {
         let bound = self.door.bind(port);

@@ -31,9 +31,7 @@ impl<R: Eprint + Copy + Send + Drop, D: Door + Drop> Door for ToldHub<R, D> {
 
     type C = D::C;
 
-    ghost faults = { λ d. D.faults d.door };
-
-    ghost ends = { λ d. D.ends d.door };
+    ghost view = { λ d. D.view d.door };
 
     fn bind(&mut self, port: u16) -> Result<(), Failed> {
         self.door.bind(port)

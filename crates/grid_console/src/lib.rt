@@ -2,11 +2,13 @@
 #![tactic(auto)]
 
 mod arguments;
+mod asked;
 mod binding;
 mod contacts;
 mod nodes;
 
 pub use arguments::{NoWords, words};
+pub use asked::{Asked, VERSION};
 pub use binding::ToldBind;
 pub use contacts::ToldHub;
 pub use nodes::ToldNodes;

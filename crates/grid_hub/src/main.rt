@@ -1,7 +1,7 @@
 //! The hub of the grid over TCP.
 #![tactic(auto)]
 
-use grid_console::{NoWords, ToldBind, words};
+use grid_console::{Asked, NoWords, ToldBind, words};
 use grid_sockets::TcpDoor;
 use grid_types::Text;
 use hub_server::hub_main;
@@ -23,14 +23,20 @@ fn explain(rt: HostRuntime, words: &[Text]) {
 
 fn main(rt: HostRuntime) -> ExitCode {
     let status = match words(&rt) {
-        Ok(words) => {
-            let mut door = ToldBind::new(rt, "grid_hub", TcpDoor::new(rt, None));
-            let status = hub_main(&rt, rt.alloc(), words.as_slice(), &mut door);
-            if status == REFUSED {
-                explain(rt, words.as_slice());
+        Ok(words) => match Asked::of(words.as_slice()) {
+            Some(asked) => {
+                asked.tell(&rt, "grid_hub", HUB_USAGE);
+                0
             }
-            status
-        }
+            None => {
+                let mut door = ToldBind::new(rt, "grid_hub", TcpDoor::new(rt, None));
+                let status = hub_main(&rt, rt.alloc(), words.as_slice(), &mut door);
+                if status == REFUSED {
+                    explain(rt, words.as_slice());
+                }
+                status
+            }
+        },
         Err(NoWords::NotText) => REFUSED,
         Err(NoWords::Memory) => NO_MEMORY,
     };

@@ -3,3 +3,4 @@ pub mod CutTextLemmas
 pub mod EntryLemmas
 pub mod OutLemmas
 pub mod HeadLemmas
+pub mod MomentLemmas

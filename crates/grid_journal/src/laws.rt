@@ -3,10 +3,12 @@ ghost use Rattle.std.specs.Prelude.{◌≡◌};
 ghost use Rattle.grid_journal.specs.declared.head.TheConstants.{HEAD_BYTES};
 ghost use Rattle.grid_journal.specs.declared.reading.TheConstants.{MOST_ENTRY_BYTES};
 ghost use Rattle.grid_journal.specs.EntryReads.{OneSpelling};
+ghost use Rattle.grid_journal.specs.HeadReads.{OneHead};
 
-/// No spelling of an entry begins that of another.
+/// No spelling of an entry begins that of another, and no head begins another.
 pub fn one_spelling()
-    ensures { OneSpelling }
+    ensures entries { OneSpelling }
+    ensures heads { OneHead }
 {}
 
 /// The number behind each name of a size in bytes, since definitions cite the names.

@@ -33,7 +33,7 @@ fn accept_links<R: Wait, D: Door>(
     node: &mut LoopNode,
     door: &mut D,
 ) -> u8
-    ensures { HasServed (D.ends door.old) (D.ends door.new) (D.faults door.old) (D.faults door.new) result }
+    ensures { HasServed (D.view door.old) (D.view door.new) result }
 {
     let mut nodes = door.nodes();
     let mut clock = door.clock();
@@ -57,7 +57,7 @@ pub(crate) fn serve_links<R: Wait, D: Door>(
     node: &mut LoopNode,
     door: &mut D,
 ) -> u8
-    ensures { HasServed (D.ends door.old) (D.ends door.new) (D.faults door.old) (D.faults door.new) result }
+    ensures { HasServed (D.view door.old) (D.view door.new) result }
 {
     let status = accept_links(rt, alloc, shared, node, door);
     shared.closed.store(true, Ordering::SeqCst);

@@ -1,8 +1,8 @@
 //! The whole of the node's program, over any door.
-ghost use Rattle.std.specs.Prelude.{◌≡◌, ◌≤◌, ◌⊎◌, IfOk};
+ghost use Rattle.std.specs.Prelude.{◌≡◌, ◌≤◌, ◌⊎◌, Some, IfOk};
 ghost use Rattle.std.specs.Thread.{IsSync};
 ghost use Rattle.grid_outside.specs.Counts.{Rose};
-ghost use Rattle.server_words.specs.NodeOptions.{FitsNode};
+ghost use Rattle.server_words.specs.NodeOptions.{FitsNode, node_said};
 ghost use Rattle.node_signs.specs.Signs.{registration_bytes};
 ghost use Rattle.grid_node.specs.Registration.{node_registration};
 ghost use Rattle.grid_node.specs.Statuses.{HasServed, HasRun};
@@ -46,7 +46,7 @@ fn serve_beside_beats<
     mut node: LoopNode,
     door: &mut D,
 ) -> u8
-    ensures { HasServed (D.ends door.old) (D.ends door.new) (D.faults door.old) (D.faults door.new) result }
+    ensures { HasServed (D.view door.old) (D.view door.new) result }
 {
     let lent = &mut *door;
     let (_, (lent, status)) = join(
@@ -54,7 +54,7 @@ fn serve_beside_beats<
         move || keep_beating(rt, alloc, shared, &mut nodes, &mut clock),
         move || -> (&mut D, u8)
             ensures { (result.0.ghost_name ≡ lent.entry.ghost_name)
-                × HasServed (D.ends lent.entry.now) (D.ends result.0.now) (D.faults lent.entry.now) (D.faults result.0.now) result.1 }
+                × HasServed (D.view lent.entry.now) (D.view result.0.now) result.1 }
         {
             let status = serve_links(rt, alloc, shared, &mut node, lent);
             (lent, status)
@@ -97,7 +97,7 @@ fn serve_registered<R: Threads + Wait + Sync, D: Door>(
     mut node: LoopNode,
     door: &mut D,
 ) -> u8
-    ensures { HasServed (D.ends door.old) (D.ends door.new) (D.faults door.old) (D.faults door.new) result }
+    ensures { HasServed (D.view door.old) (D.view door.new) result }
 {
     let mut nodes = door.nodes();
     let mut clock = door.clock();
@@ -123,7 +123,7 @@ fn run<R: Threads + Wait + Sync, D: Door>(
     words: &NodeWords,
     door: &mut D,
 ) -> u8
-    ensures { HasRun (D.ends door.old) (D.ends door.new) (D.faults door.old) (D.faults door.new) result }
+    ensures { HasRun words.now.port (D.view door.old) (D.view door.new) result }
 {
     let slots = slots_of(words);
     let Ok(body) = body_of(alloc, words, slots) else {
@@ -150,11 +150,15 @@ pub fn node_main<R: Threads + Wait + Sync, D: Door>(
     words: &[Text],
     door: &mut D,
 ) -> u8
-    ensures closed { result ≡ 0 → Rose (D.ends door.old) (D.ends door.new) }
+    ensures closed { result ≡ 0 → Rose (D.view door.old).ends (D.view door.new).ends }
     ensures misfit { result ≡ 2 → ¬ (FitsNode words.now) }
     ensures refuses { ¬ (FitsNode words.now) → (result ≡ 2) ⊎ (result ≡ 5) }
-    ensures failed { result ≡ 3 → Rose (D.faults door.old) (D.faults door.new) }
-    ensures later { (D.ends door.old ≤ D.ends door.new) × (D.faults door.old ≤ D.faults door.new) }
+    ensures failed { result ≡ 3 → Rose (D.view door.old).faults (D.view door.new).faults }
+    ensures later { ((D.view door.old).ends ≤ (D.view door.new).ends) × ((D.view door.old).faults ≤ (D.view door.new).faults) }
+    // It listens where the words say, and is bound nowhere else.
+    ensures listens { result ≡ 0 → (D.view door.new).bound ≡ Some (node_said words.now).port }
+    ensures bound { ((D.view door.new).bound ≡ (D.view door.old).bound)
+        ⊎ ((D.view door.new).bound ≡ Some (node_said words.now).port) }
     ensures statuses { (result ≡ 0) ⊎ ((result ≡ 2) ⊎ ((result ≡ 3) ⊎ (result ≡ 5))) }
 {
     match node_words(alloc, words) {

@@ -1,7 +1,7 @@
 //! A node in memory that registers at a hub and serves the sessions that the hub starts on it.
 #![tactic(auto)]
 
-use grid_console::{NoWords, ToldBind, ToldHub, words};
+use grid_console::{Asked, NoWords, ToldBind, ToldHub, words};
 use grid_node::node_main;
 use grid_sockets::TcpDoor;
 use grid_types::Text;
@@ -23,15 +23,21 @@ fn explain(rt: HostRuntime, words: &[Text]) {
 
 fn main(rt: HostRuntime) -> ExitCode {
     let status = match words(&rt) {
-        Ok(words) => {
-            let bind = ToldBind::new(rt, "grid_node", TcpDoor::new(rt, None));
-            let mut door = ToldHub::new(rt, "grid_node", bind);
-            let status = node_main(&rt, rt.alloc(), words.as_slice(), &mut door);
-            if status == REFUSED {
-                explain(rt, words.as_slice());
+        Ok(words) => match Asked::of(words.as_slice()) {
+            Some(asked) => {
+                asked.tell(&rt, "grid_node", NODE_USAGE);
+                0
             }
-            status
-        }
+            None => {
+                let bind = ToldBind::new(rt, "grid_node", TcpDoor::new(rt, None));
+                let mut door = ToldHub::new(rt, "grid_node", bind);
+                let status = node_main(&rt, rt.alloc(), words.as_slice(), &mut door);
+                if status == REFUSED {
+                    explain(rt, words.as_slice());
+                }
+                status
+            }
+        },
         Err(NoWords::NotText) => REFUSED,
         Err(NoWords::Memory) => NO_MEMORY,
     };

@@ -1,7 +1,12 @@
 -- What a door in memory tells.
 use Rattle.std.specs.Prelude.{◌≡◌, List, [], ◌∷◌, Option, None, Some}
+use Rattle.grid_outside.specs.Told.{DoorView}
 use Rattle.grid_outside.specs.declared.mem_link.MemLink.{MemLink}
 use Rattle.grid_outside.specs.declared.mem_door.MemDoor.{MemDoor}
+
+-- all that it tells
+abbrev pub door_view : MemDoor → DoorView
+door_view d = record { faults = d.failing.faults; ends = d.ends; bound = d.bound }
 
 -- the links that it has yet to hand out, in order
 abbrev pub to_hand_out : MemDoor → List MemLink

@@ -1,6 +1,7 @@
 //! Where links come from: a port that is bound and accepted at.
-ghost use Rattle.std.specs.Prelude.{◌≡◌, ℕ, ◌≤◌, None, Result, IfOk};
+ghost use Rattle.std.specs.Prelude.{◌≡◌, ◌≤◌, None, Some, Result, IfOk, OnOk, OnErr};
 ghost use Rattle.grid_outside.specs.Counts.{Rose, HasCause};
+ghost use Rattle.grid_outside.specs.Told.{DoorView};
 
 use crate::clock::Clock;
 use crate::link::Link;
@@ -16,30 +17,33 @@ pub trait Door {
 
     type C: Clock + Send + Drop;
 
-    /// How often it failed to be bound or to accept; it stays at 2^64 - 1 once it is there.
-    ghost faults: { Self → ℕ };
+    /// How often it failed to be bound or to accept, how often it was found closed, and the port that it was bound at last.
+    /// A count stays at 2^64 - 1 once it is there.
+    ghost view: { Self → DoorView };
 
-    /// How often it was found closed; it stays at 2^64 - 1 once it is there.
-    ghost ends: { Self → ℕ };
-
-    /// From now on links come in at this port.
+    /// From now on links come in at this port. After a failure it is bound where it was.
     fn bind(&mut self, port: u16) -> Result<(), Failed>
-        ensures cause { HasCause (faults self.old) (faults self.new) result }
-        ensures ends { ends self.old ≤ ends self.new };
+        ensures cause { HasCause (view self.old).faults (view self.new).faults result }
+        ensures ends { (view self.old).ends ≤ (view self.new).ends }
+        ensures bound { OnOk result ((view self.new).bound ≡ Some port) }
+        ensures unbound { OnErr result ((view self.new).bound ≡ (view self.old).bound) };
 
     /// The next link that comes in. None says that the door was closed.
     fn accept(&mut self) -> Result<Option<Self::L>, Failed>
-        ensures cause { HasCause (faults self.old) (faults self.new) result }
-        ensures closed { IfOk result (λ link. link ≡ None → Rose (ends self.old) (ends self.new)) }
-        ensures ends { ends self.old ≤ ends self.new };
+        ensures cause { HasCause (view self.old).faults (view self.new).faults result }
+        ensures closed { IfOk result (λ link. link ≡ None → Rose (view self.old).ends (view self.new).ends) }
+        ensures ends { (view self.old).ends ≤ (view self.new).ends }
+        ensures bound { (view self.new).bound ≡ (view self.old).bound };
 
     /// One more of what reaches the nodes.
     fn nodes(&mut self) -> Self::N
-        ensures faults { faults self.old ≤ faults self.new }
-        ensures ends { ends self.old ≤ ends self.new };
+        ensures faults { (view self.old).faults ≤ (view self.new).faults }
+        ensures ends { (view self.old).ends ≤ (view self.new).ends }
+        ensures bound { (view self.new).bound ≡ (view self.old).bound };
 
     /// One more of what tells the time.
     fn clock(&mut self) -> Self::C
-        ensures faults { faults self.old ≤ faults self.new }
-        ensures ends { ends self.old ≤ ends self.new };
+        ensures faults { (view self.old).faults ≤ (view self.new).faults }
+        ensures ends { (view self.old).ends ≤ (view self.new).ends }
+        ensures bound { (view self.new).bound ≡ (view self.old).bound };
 }

@@ -1,5 +1,5 @@
 //! A door in memory.
-ghost use Rattle.std.specs.Prelude.{◌≡◌, ℕ, ◌-◌, ◌^◌, ◌≤◌, min, List, [], ◌∷◌, ◌++◌, None, Option, Result, is_none, is_err, IfOk, OnOk, OnErr, IfErr};
+ghost use Rattle.std.specs.Prelude.{◌≡◌, ℕ, ◌-◌, ◌^◌, ◌≤◌, min, List, [], ◌∷◌, ◌++◌, None, Some, Option, Result, is_none, is_err, IfOk, OnOk, OnErr, IfErr};
 ghost use Rattle.grid_types.specs.declared.limits.TheConstants.{LAST_MOMENT};
 ghost use Rattle.grid_outside.specs.Counts.{Rose, HasCause};
 
@@ -12,7 +12,7 @@ use grid_types::Moment;
 use std::alloc::Global;
 
 /// Hands out its links in order, and is closed once none is left. Its nodes have no reply to give,
-/// and each of its clocks begins at the moment that it was made with.
+/// each of its clocks begins at the moment that it was made with, and it remembers the port that it was bound at.
 #[derive(Drop)]
 pub struct MemDoor {
     alloc: Global,
@@ -20,6 +20,7 @@ pub struct MemDoor {
     at: Moment,
     failing: Failing,
     ends: u64,
+    bound: Option<u16>,
 }
 
 impl MemDoor {
@@ -33,6 +34,7 @@ impl MemDoor {
         ensures at { result.at ≡ at }
         ensures plan { Begins fails.items result.failing }
         ensures ends { result.ends ≡ 0 }
+        ensures unbound { result.bound ≡ None }
     {
         MemDoor {
             alloc,
@@ -40,7 +42,15 @@ impl MemDoor {
             at,
             failing: Failing::new(fails),
             ends: 0,
+            bound: None,
         }
+    }
+
+    /// The port that it was bound at last.
+    pub fn port(&self) -> Option<u16>
+        ensures { result ≡ self.now.bound }
+    {
+        self.bound
     }
 
     /// Puts a link last of those to hand out. Err: out of memory, which hands it back.
@@ -58,7 +68,7 @@ impl MemDoor {
 }
 
 impl Door for MemDoor {
-    ghost use Rattle.grid_outside.specs.MemDoors.{to_hand_out, HandsOut};
+    ghost use Rattle.grid_outside.specs.MemDoors.{door_view, to_hand_out, HandsOut};
     ghost use Rattle.grid_outside.specs.MemNodes.{to_give, exchanges_made};
     ghost use Rattle.grid_outside.specs.Memory.{clock_at, clock_pauses};
     ghost use Rattle.grid_outside.specs.Counts.{more_if};
@@ -70,9 +80,7 @@ impl Door for MemDoor {
 
     type C = MemClock;
 
-    ghost faults = { λ d. d.failing.faults };
-
-    ghost ends = { λ d. d.ends };
+    ghost view = { door_view };
 
     fn bind(&mut self, port: u16) -> Result<(), Failed>
         ensures cause { HasCause self.old.failing.faults self.new.failing.faults result }
@@ -81,13 +89,15 @@ impl Door for MemDoor {
         // It fails exactly where that is planned.
         ensures fails { is_err result ≡ is_due self.old.failing }
         ensures counts { CountsCall self.old.failing self.new.failing result }
-        ensures rest { self.new ≡ record self.old { failing = self.new.failing } }
+        ensures rest { self.new ≡ record self.old { failing = self.new.failing; bound = self.new.bound } }
+        ensures bound { OnOk result (self.new.bound ≡ Some port) }
+        ensures unbound { OnErr result (self.new.bound ≡ self.old.bound) }
     {
-        let _ = port;
         if self.failing.next_fails() {
             self.failing.count_fault();
             return Err(Failed);
         }
+        self.bound = Some(port);
         Ok(())
     }
 
@@ -102,6 +112,7 @@ impl Door for MemDoor {
         ensures none { IfOk result (λ link. self.new.ends ≡ more_if (is_none link) self.old.ends) }
         ensures open_still { OnErr result (self.new.ends ≡ self.old.ends) }
         ensures at { self.new.at ≡ self.old.at }
+        ensures bound { self.new.bound ≡ self.old.bound }
     {
         if self.failing.next_fails() {
             self.failing.count_fault();
@@ -117,6 +128,7 @@ impl Door for MemDoor {
     fn nodes(&mut self) -> MemNodes
         ensures faults { self.old.failing.faults ≤ self.new.failing.faults }
         ensures ends { self.old.ends ≤ self.new.ends }
+        ensures bound { self.new.bound ≡ self.old.bound }
         ensures links { to_hand_out self.new ≡ to_hand_out self.old }
         ensures give { to_give result ≡ [] }
         ensures made { exchanges_made result ≡ [] }
@@ -129,6 +141,7 @@ impl Door for MemDoor {
     fn clock(&mut self) -> MemClock
         ensures faults { self.old.failing.faults ≤ self.new.failing.faults }
         ensures ends { self.old.ends ≤ self.new.ends }
+        ensures bound { self.new.bound ≡ self.old.bound }
         ensures links { to_hand_out self.new ≡ to_hand_out self.old }
         ensures at { clock_at result ≡ min LAST_MOMENT self.old.at.0 }
         ensures pauses { clock_pauses result ≡ record { count = 0; sum = 0 } }

@@ -18,8 +18,8 @@ use Rattle.grid_types.specs.Requests.{deadline_of}
 use Rattle.grid_types.specs.Calls.{Call, Reply}
 use Rattle.grid_types.specs.HubAnswers.{after_call, hub}
 use Rattle.grid_types.specs.Tokens.{Closing, Reservation, Ticket}
-use Rattle.start_laws.specs.Laws.{CallsKeepNewest, CallsKeepTheClock, DeadlinesAreMoments, IsEarly, PollsAreEarly, QueuedDeadlines, StartsRunOut}
-use Rattle.start_laws.specs.Starts.{registered_count, starts_left}
+use Rattle.request_laws.specs.Laws.{CallsKeepNewest, CallsKeepTheClock, DeadlinesAreMoments, IsEarly, PollsAreEarly, QueuedDeadlines, StartsRunOut}
+use Rattle.request_laws.specs.Starts.{registered_count, starts_left}
 use Rattle.hub_core.specs.Answers.{may_lack}
 use Rattle.hub_core.specs.Replies.{failing_reply}
 use Rattle.caps_merge.specs.declared.fault.CapsFault.{CapsFault}

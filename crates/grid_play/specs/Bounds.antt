@@ -6,7 +6,7 @@ use Rattle.grid_types.specs.declared.config.HubConfig.{HubConfig}
 use Rattle.grid_types.specs.declared.entry.Entry.{Entry}
 use Rattle.grid_types.specs.Calls.{Call, Reply}
 use Rattle.grid_types.specs.QueueTime.{queue_time}
-use Rattle.start_laws.specs.Starts.{registered_count}
+use Rattle.request_laws.specs.Starts.{registered_count}
 use Rattle.caps_merge.specs.Merging.{BodyGives}
 use Rattle.router_core.specs.Routes.{new_session}
 use Rattle.node_client.specs.Steps.{Step, Called, Spent, Exchanged, Paused}

@@ -1,5 +1,6 @@
 pub mod Crew
 pub mod Played
+pub mod BothEnds
 pub mod Ran
 pub mod Readings
 pub mod OneConversation

@@ -2,14 +2,15 @@
 use Rattle.std.specs.Prelude.{◌≡◌, ◌≢◌, ◌⊎◌, ℕ, ◌<◌, ◌^◌, Bool, true, false, List, Option, Result, Ok, Err, IfOk}
 use Rattle.grid_types.specs.declared.config.HubConfig.{HubConfig}
 use Rattle.grid_outside.specs.Counts.{Rose}
+use Rattle.grid_outside.specs.Told.{LinkView}
 use Rattle.node_client.specs.Steps.{Step}
 use Rattle.conn_script.specs.declared.wants.ConnFault.{ConnFault}
 use Rattle.conn_script.specs.declared.wants.ConnFault.TheVariants as faults
 use Rattle.conn_script.specs.declared.wants.End.{End}
 use Rattle.conn_script.specs.declared.wants.End.TheVariants as ends
 use Rattle.conn_script.specs.declared.wants.Served.{Served}
-use Rattle.hub_conn.specs.Talk.{result_cause}
-use Rattle.hub_links.specs.Links.{LinkView, Moved, RoseFor}
+use Rattle.hub_links.specs.Links.{Moved}
+use Rattle.local_driver.specs.Served.{Blames}
 use Rattle.grid_simulate.specs.Writing.{WroteAll, BrokeOff}
 use Rattle.play_words.specs.declared.play.PlayNode.{PlayNode}
 use Rattle.play_words.specs.Words.{Plays, IsSimulate}
@@ -61,7 +62,7 @@ pub record ServedSo (c : HubConfig) (nodes : List PlayNode) (ended : Result Serv
   pub written : List ℕ
   pub played : Played c nodes ended bytes steps written
   pub moved : Moved old bytes written new
-  pub rose : RoseFor (result_cause ended) old new
+  pub blames : Blames ended old new
   pub unspent : IsUnspent ended
 
 -- a connection was served, and its end tells the status

@@ -12,16 +12,9 @@ pub(crate) struct Joined<'a, S: Source, K: Sink> {
 
 impl<S: Source, K: Sink> Link for Joined<'_, S, K> {
     ghost use Rattle.std.proofs.Common.{refl, ◌∙◌};
+    ghost use Rattle.grid_play.specs.BothEnds.{link_of};
 
-    ghost read_faults = { λ l. S.faults l.source.now };
-
-    ghost write_faults = { λ l. K.faults l.sink.now };
-
-    ghost ends = { λ l. S.ends l.source.now };
-
-    ghost given = { λ l. S.given l.source.now };
-
-    ghost taken = { λ l. K.taken l.sink.now };
+    ghost view = { λ l. link_of (S.given l.source.now) (K.taken l.sink.now) (S.faults l.source.now) (K.faults l.sink.now) (S.ends l.source.now) };
 
     ghost Same = { λ x y. (y.source.ghost_name ≡ x.source.ghost_name) × (y.sink.ghost_name ≡ x.sink.ghost_name) };
 

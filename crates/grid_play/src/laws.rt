@@ -9,7 +9,7 @@ use hub_conn::conversations_find_spent_last;
 use json_spans::{a_text_is_read_one_way, a_text_is_refused_one_way};
 use node_client::replies_say_one_thing;
 use play_words::words_say_one_play;
-use start_laws::{
+use request_laws::{
     calls_keep_the_clock, calls_keep_the_newest_request, polls_are_early, starts_run_out,
 };
 

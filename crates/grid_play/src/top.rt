@@ -3,9 +3,9 @@ ghost use Rattle.std.specs.Prelude.{◌≡◌, ◌≢◌, ◌⊎◌, ◌↔◌, 
 ghost use Rattle.grid_types.specs.declared.config.HubConfig.{HubConfig};
 ghost use Rattle.grid_types.specs.Config.{IsValid};
 ghost use Rattle.grid_outside.specs.Counts.{Rose};
-ghost use Rattle.hub_links.specs.Links.{link_of};
 ghost use Rattle.play_words.specs.declared.play.PlayNode.{PlayNode};
 ghost use Rattle.play_words.specs.Words.{Plays, IsSimulate};
+ghost use Rattle.grid_play.specs.BothEnds.{link_of};
 ghost use Rattle.grid_play.specs.Crew.{AllFit};
 ghost use Rattle.grid_play.specs.Ran.{Fit, FitPlay, Ran, ServedSo, Summed, end_status, status_of};
 

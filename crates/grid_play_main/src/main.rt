@@ -1,20 +1,34 @@
 //! The grid in one thread: serves one connection over standard input and output.
 #![tactic(auto)]
 
-use grid_console::{NoWords, words};
+use grid_console::{Asked, NoWords, words};
 use grid_outside::{StandardInput, StandardOutput};
 use grid_play::run;
+use grid_types::Text;
 use std::alloc::Global;
 use std::process::ExitCode;
 
-fn main(rt: HostRuntime) -> ExitCode {
+/// How the program is called.
+const USAGE: &str = "\
+usage: grid_play play NODE SLOTS [NODE SLOTS]..    one connection on standard input and output
+       grid_play simulate NUMBER                   the summary of a number's simulation
+";
+
+/// Runs what the arguments say, or tells what they ask of the program.
+fn status_of(rt: HostRuntime, words: &[Text]) -> u8 {
+    if let Some(asked) = Asked::of(words) {
+        asked.tell(&rt, "grid_play", USAGE);
+        return 0;
+    }
     let alloc: Global = rt.alloc();
+    let mut input = StandardInput::new(&rt);
+    let mut output = StandardOutput::new(&rt);
+    run(alloc, words, &mut input, &mut output)
+}
+
+fn main(rt: HostRuntime) -> ExitCode {
     let status = match words(&rt) {
-        Ok(words) => {
-            let mut input = StandardInput::new(&rt);
-            let mut output = StandardOutput::new(&rt);
-            run(alloc, words.as_slice(), &mut input, &mut output)
-        }
+        Ok(words) => status_of(rt, words.as_slice()),
         Err(NoWords::NotText) => 2,
         Err(NoWords::Memory) => 5,
     };

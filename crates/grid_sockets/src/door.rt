@@ -1,5 +1,5 @@
 //! A door over TCP.
-ghost use Rattle.std.specs.Prelude.{◌≡◌, ℕ, ◌≤◌, None, IfOk, OnOk, OnErr, IsSome};
+ghost use Rattle.std.specs.Prelude.{◌≡◌, ℕ, ◌≤◌, None, Some, IfOk, OnOk, OnErr, IsSome};
 ghost use Rattle.grid_outside.specs.Counts.{Rose, HasCause};
 ghost use Rattle.grid_sockets.specs.Limits.{IsCounted};
 
@@ -26,6 +26,7 @@ pub struct TcpDoor<R: Net<Listener = TcpListener, Stream = TcpStream> + Drop> {
     runtime: R,
     left: Option<u64>,
     listener: Option<TcpListener>,
+    bound: Option<u16>,
     faults: u64,
     ends: u64,
 }
@@ -34,7 +35,7 @@ impl<R: Net<Listener = TcpListener, Stream = TcpStream> + Drop> TcpDoor<R> {
     /// A door that is not bound yet. With a limit it closes after so many accepted links.
     pub fn new(runtime: R, limit: Option<u64>) -> Self
         ensures limit { result.left ≡ limit }
-        ensures unbound { result.listener ≡ None }
+        ensures unbound { (result.listener ≡ None) × (result.bound ≡ None) }
         ensures faults { result.faults ≡ 0 }
         ensures ends { result.ends ≡ 0 }
     {
@@ -42,6 +43,7 @@ impl<R: Net<Listener = TcpListener, Stream = TcpStream> + Drop> TcpDoor<R> {
             runtime,
             left: limit,
             listener: None,
+            bound: None,
             faults: 0,
             ends: 0,
         }
@@ -98,20 +100,21 @@ impl<R: Net<Listener = TcpListener, Stream = TcpStream> + time::Clock + Copy + S
 
     type C = MachineClock<R>;
 
-    ghost faults = { λ d. d.faults };
-
-    ghost ends = { λ d. d.ends };
+    ghost view = { λ d. record { faults = d.faults; ends = d.ends; bound = d.bound } };
 
     fn bind(&mut self, port: u16) -> Result<(), Failed>
         ensures cause { HasCause self.old.faults self.new.faults result }
         ensures ends { self.old.ends ≤ self.new.ends }
-        ensures bound { OnOk result (IsSome self.new.listener) }
+        ensures bound { OnOk result (self.new.bound ≡ Some port) }
+        ensures unbound { OnErr result (self.new.bound ≡ self.old.bound) }
+        ensures listens { OnOk result (IsSome self.new.listener) }
         ensures err { OnErr result (self.new.listener ≡ self.old.listener) }
         ensures limit { self.new.left ≡ self.old.left }
     {
         match TcpListener::bind(&self.runtime, (Ipv4Addr::UNSPECIFIED, port)) {
             Ok(listener) => {
                 self.listener = Some(listener);
+                self.bound = Some(port);
                 Ok(())
             }
             Err(_) => {
@@ -128,7 +131,8 @@ impl<R: Net<Listener = TcpListener, Stream = TcpStream> + time::Clock + Copy + S
         // It closes exactly after its limit.
         ensures limit { IfOk result (IsCounted self.old.left self.new.left) }
         ensures failed { OnErr result (self.new.left ≡ self.old.left) }
-        ensures bound { self.new.listener ≡ self.old.listener }
+        ensures bound { self.new.bound ≡ self.old.bound }
+        ensures listens { self.new.listener ≡ self.old.listener }
     {
         if self.left == Some(0) {
             self.ends = self.ends.saturating_add(1);
@@ -153,6 +157,7 @@ impl<R: Net<Listener = TcpListener, Stream = TcpStream> + time::Clock + Copy + S
     fn nodes(&mut self) -> TcpNodes<R>
         ensures faults { self.old.faults ≤ self.new.faults }
         ensures ends { self.old.ends ≤ self.new.ends }
+        ensures bound { self.new.bound ≡ self.old.bound }
         ensures limit { self.new.left ≡ self.old.left }
         ensures rest { self.new ≡ self.old }
         ensures fresh { result.faults ≡ 0 }
@@ -163,6 +168,7 @@ impl<R: Net<Listener = TcpListener, Stream = TcpStream> + time::Clock + Copy + S
     fn clock(&mut self) -> MachineClock<R>
         ensures faults { self.old.faults ≤ self.new.faults }
         ensures ends { self.old.ends ≤ self.new.ends }
+        ensures bound { self.new.bound ≡ self.old.bound }
         ensures limit { self.new.left ≡ self.old.left }
         ensures rest { self.new ≡ self.old }
         ensures fresh { result.last ≡ 0 }

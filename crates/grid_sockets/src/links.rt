@@ -1,5 +1,6 @@
 //! A connection over TCP.
-ghost use Rattle.std.specs.Prelude.{◌≡◌, ℕ, ◌<◌, ◌≤◌, length, None};
+ghost use Rattle.std.specs.Prelude.{◌≡◌, ℕ, ◌<◌, ◌≤◌, length};
+ghost use Rattle.grid_outside.specs.Told.{counting};
 
 use grid_outside::{Failed, Link};
 use std::io::{Read, Write};
@@ -45,15 +46,7 @@ pub(crate) fn client_link(stream: TcpStream) -> TcpLink<TcpStream> {
 }
 
 impl<S: Read + Write + Drop> Link for TcpLink<S> {
-    ghost read_faults = { λ l. l.read_faults };
-
-    ghost write_faults = { λ l. l.write_faults };
-
-    ghost ends = { λ l. l.ends };
-
-    ghost given = { λ l. None };
-
-    ghost taken = { λ l. None };
+    ghost view = { λ l. counting l.read_faults l.write_faults l.ends };
 
     ghost Same = { λ x y. Unit {0} };
 

@@ -1,6 +1,6 @@
 //! The clock of the machine.
-ghost use Rattle.std.specs.Prelude.{◌≡◌, ℕ, ◌-◌, ◌^◌, ◌<◌, ◌≤◌, min, None};
-ghost use Rattle.grid_outside.specs.Told.{later_by};
+ghost use Rattle.std.specs.Prelude.{◌≡◌, ℕ, ◌-◌, ◌^◌, ◌<◌, ◌≤◌, min};
+ghost use Rattle.grid_outside.specs.Told.{later_by, untold};
 
 use grid_outside::Clock;
 use grid_types::{LAST_MOMENT, Moment};
@@ -38,9 +38,9 @@ impl<R: time::Clock + Drop> MachineClock<R> {
 }
 
 impl<R: time::Clock + Drop> Clock for MachineClock<R> {
-    ghost moment = { λ c. c.last };
+    ghost view = { λ c. untold c.last };
 
-    ghost pauses = { λ c. None };
+    ghost gives = { λ old tick at new. Unit {0} };
 
     fn now(&mut self) -> Moment {
         self.last = self.shown().max(self.last);

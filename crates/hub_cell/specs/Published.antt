@@ -2,15 +2,14 @@
 use Rattle.std.specs.Prelude.{◌≡◌, ℕ, ◌<◌, List, [], length, Result, Ok, Err}
 use Rattle.grid_types.specs.declared.entry.Entry.{Entry}
 use Rattle.grid_types.specs.declared.entry.Found.{Found}
-use Rattle.grid_types.specs.Sessions.{found_of}
-use Rattle.grid_types.specs.LookupMap.{Item, find, changes}
+use Rattle.grid_types.specs.LookupMap.{changes}
 use Rattle.hub_core.specs.declared.hub.HubCore.{HubCore}
 use Rattle.hub_core.specs.CoreStands.{Stands}
 use Rattle.map_view.specs.declared.items.Item as map_item
 use Rattle.map_view.specs.declared.map.MapReader.{MapReader}
 use Rattle.map_view.specs.declared.map.MapWriter.{MapWriter}
 use Rattle.map_view.specs.Lists.{BeginsWith}
-use Rattle.map_view.specs.Maps.{published, pending, Knows}
+use Rattle.map_view.specs.Maps.{published, pending, Finds, Knows}
 
 -- the map shows the changes of the history, and nothing waits to be shown
 pub record MapStands (map : MapWriter) (H : List Entry) : Type 0 where
@@ -26,15 +25,11 @@ pub record GridStands (core : HubCore) (map : MapWriter) (H : List Entry) : Type
 abbrev pub KnowsChanges : MapReader → List Entry → Type 0
 KnowsChanges reader H = Knows reader (changes H)
 
--- A look-up that takes no turn answers by some list of the map's changes. It begins with those of the history that the
--- pass has seen, and with all that the reader knew, the list of its last look-up among it; and the next look-up's list
--- begins with this one.
+-- A look-up that takes no turn answers by the list that the reader finds, and knows from now on. It begins with all that
+-- the reader knew, the list of its last look-up among it, and so with the changes of the history that the pass has seen.
 pub record FromMap (old new : MapReader) (H : List Entry) (session : List ℕ) (found : Found) : Type 0 where
-  pub list : List Item
-  pub answers : found ≡ found_of (find list session)
-  pub begins : BeginsWith list (changes H)
-  pub goes_on : (L : List Item) → Knows old L → BeginsWith list L
-  pub is_known : Knows new list
+  pub finds : Finds old new session found
+  pub begins : BeginsWith finds.list (changes H)
 
 -- memory is asked for: the items could not be told, or there are some
 abbrev pub MayLack : {E : Type 0} → Result (List map_item.Item) E → Type 0

@@ -1,6 +1,6 @@
 //! Look-ups without a turn.
 ghost use Rattle.std.specs.Prelude.{◌≡◌, IfSome};
-ghost use Rattle.hub_cell.specs.Passes.{knows, reader_of, IsOf};
+ghost use Rattle.hub_cell.specs.Passes.{knows, noting, reader_of, IsOf};
 ghost use Rattle.hub_cell.specs.Published.{FromMap};
 ghost use Rattle.hub_cell.specs.Shared.{past};
 
@@ -18,14 +18,14 @@ pub fn find_published<R: Threads>(
     session: SessionId,
 ) -> (Pass, Option<Found>)
     requires { IsOf hub.now pass }
-    ensures own { IsOf hub.now result.0 × (knows result.0 ≡ knows pass) }
+    ensures own { IsOf hub.now result.0 × (knows result.0 ≡ noting session result.1 (knows pass)) }
     ensures found { IfSome result.1 (FromMap (reader_of pass) (reader_of result.0) (past (knows pass)) session) }
 {
     let (found, ()) = thread::join(
         rt,
         move || -> (Pass, Option<Found>)
             requires { IsOf hub.now pass }
-            ensures { IsOf hub.entry.now result.0 × (knows result.0 ≡ knows pass) × IfSome result.1 (FromMap (reader_of pass) (reader_of result.0) (past (knows pass)) session) }
+            ensures { IsOf hub.entry.now result.0 × (knows result.0 ≡ noting session result.1 (knows pass)) × IfSome result.1 (FromMap (reader_of pass) (reader_of result.0) (past (knows pass)) session) }
         { find(hub, pass, &session) },
         || {},
     );
@@ -34,7 +34,7 @@ pub fn find_published<R: Threads>(
 
 fn find(hub: &SharedHub, mut pass: Pass, session: &SessionId) -> (Pass, Option<Found>)
     requires { IsOf hub.now pass }
-    ensures own { IsOf hub.now result.0 × (knows result.0 ≡ knows pass) }
+    ensures own { IsOf hub.now result.0 × (knows result.0 ≡ noting session.now result.1 (knows pass)) }
     ensures found { IfSome result.1 (FromMap (reader_of pass) (reader_of result.0) (past (knows pass)) session.now) }
 {
     let found = hub.lookup(&mut pass, session);

@@ -5,7 +5,7 @@ use Rattle.std.specs.List.{AllZip}
 use Rattle.std.proofs.lemmas.List.Elements.{All-cons, All-nil}
 use mathlib.Core.List.{IsPrefix}
 use Rattle.grid_types.specs.declared.spent.Spent.{Spent}
-use Rattle.grid_outside.specs.Told.{Pauses}
+use Rattle.grid_outside.specs.Told.{ClockView, Tick}
 use Rattle.grid_outside.specs.declared.exchange.Ask.{Ask}
 use Rattle.grid_outside.specs.Exchanges.{Came}
 use Rattle.turn_cell.specs.declared.views.Ended.{Ended}
@@ -23,35 +23,35 @@ use Rattle.hub_crew.specs.Hands.{HandDid, IsBack, IsBehind, IsFresh, IsHired, Is
 use Rattle.hub_crew.proofs.GoesLemmas.{goes_both}
 use Rattle.hub_crew.proofs.ListLemmas.{all_head, all_tail}
 
-module _ {N C : Type 0} (hub : SharedHub) (gives : N → List ℕ → Ask → Came → N → Type 0) (moment : C → ℕ) (pauses : C → Option Pauses) (turns : ℕ) (before : Knowledge) where
+module _ {N C : Type 0} (hub : SharedHub) (gives : N → List ℕ → Ask → Came → N → Type 0) (tells : C → Tick → ℕ → C → Type 0) (shows : C → ClockView) (turns : ℕ) (before : Knowledge) where
   -- what a worker did as a stint
   abbrev stint_of : Hand N C → Hand N C → Stint (Tool N C)
   stint_of h k = record { known = knows h.pass; tool = h.tool; end = k.end; known_after = knows k.pass; tool_after = k.tool }
 
-  is_stint : (h k : Hand N C) → HandDid hub gives moment pauses turns h k → IsBehind before.seen h → IsStint hub gives moment pauses turns before (stint_of h k)
+  is_stint : (h k : Hand N C) → HandDid hub gives tells shows turns h k → IsBehind before.seen h → IsStint hub gives tells shows turns before (stint_of h k)
   is_stint h k did behind = record { fresh = did.fresh; behind = behind; worked = did.worked; is_legal = did.is_legal; is_safe = did.is_safe }
 
   -- the stints, in the order of the tools
   pub record Collected (tools tools_after : List (Tool N C)) (left : List Ended) : Type 0 where
     pub stints : List (Stint (Tool N C))
-    pub each : All (IsStint hub gives moment pauses turns before) stints
+    pub each : All (IsStint hub gives tells shows turns before) stints
     pub tools_are : map (λ s. s.tool) stints ≡ tools
     pub tools_after_are : map (λ s. s.tool_after) stints ≡ tools_after
     pub left_are : map (λ s. ended_of s.known_after) stints ≡ left
 
-  collect : (hs ks : List (Hand N C)) → AllZip (HandDid hub gives moment pauses turns) hs ks → All (IsBehind before.seen) hs →
-      (done : List (Stint (Tool N C))) → All (IsStint hub gives moment pauses turns before) done →
+  collect : (hs ks : List (Hand N C)) → AllZip (HandDid hub gives tells shows turns) hs ks → All (IsBehind before.seen) hs →
+      (done : List (Stint (Tool N C))) → All (IsStint hub gives tells shows turns before) done →
       Collected (backwards tool_of hs (map (λ s. s.tool) done)) (backwards tool_of ks (map (λ s. s.tool_after) done)) (backwards left_by ks (map (λ s. ended_of s.known_after) done))
   collect [] [] did behind done all = record { stints = done; each = all; tools_are = refl; tools_after_are = refl; left_are = refl }
   collect [] (k ∷ ks) did behind done all = absurd did
   collect (h ∷ hs) [] did behind done all = absurd did
   collect (h ∷ hs) (k ∷ ks) did behind done all =
       collect hs ks did.1 (all_tail (IsBehind before.seen) h hs behind) (stint_of h k ∷ done)
-      (All-cons (IsStint hub gives moment pauses turns before) (stint_of h k) done (is_stint h k did.0 (all_head (IsBehind before.seen) h hs behind)) all)
+      (All-cons (IsStint hub gives tells shows turns before) (stint_of h k) done (is_stint h k did.0 (all_head (IsBehind before.seen) h hs behind)) all)
 
-  pub collected : (hs ks : List (Hand N C)) → AllZip (HandDid hub gives moment pauses turns) hs ks → All (IsBehind before.seen) hs →
+  pub collected : (hs ks : List (Hand N C)) → AllZip (HandDid hub gives tells shows turns) hs ks → All (IsBehind before.seen) hs →
       Collected (backwards tool_of hs []) (backwards tool_of ks []) (backwards left_by ks [])
-  collected hs ks did behind = collect hs ks did behind [] (All-nil (IsStint hub gives moment pauses turns before))
+  collected hs ks did behind = collect hs ks did behind [] (All-nil (IsStint hub gives tells shows turns before))
 
 abbrev Waits : Knowledge → Knowledge → Type 0
 Waits before v = IsFresh v × IsPrefix before.seen v.seen
@@ -84,17 +84,17 @@ module _ {N C : Type 0} (hub : SharedHub) (before : Knowledge) where
   ready_ends h r = record { own = r.own; ended = r.fresh.ended; spent = r.fresh.spent ∙ sym (ap (spent_after 0) r.unbegun) }
 
 -- workers that worked may be joined too
-pub did_end : {N C : Type 0} (hub : SharedHub) (gives : N → List ℕ → Ask → Came → N → Type 0) (moment : C → ℕ) (pauses : C → Option Pauses) (turns : ℕ)
-    (hs ks : List (Hand N C)) → AllZip (HandDid hub gives moment pauses turns) hs ks → All (MayEnd hub) ks
-did_end hub gives moment pauses turns [] [] did = All-nil (MayEnd hub)
-did_end hub gives moment pauses turns [] (k ∷ ks) did = absurd did
-did_end hub gives moment pauses turns (h ∷ hs) [] did = absurd did
-did_end hub gives moment pauses turns (h ∷ hs) (k ∷ ks) did = All-cons (MayEnd hub) k ks did.0.ends (did_end hub gives moment pauses turns hs ks did.1)
+pub did_end : {N C : Type 0} (hub : SharedHub) (gives : N → List ℕ → Ask → Came → N → Type 0) (tells : C → Tick → ℕ → C → Type 0) (shows : C → ClockView) (turns : ℕ)
+    (hs ks : List (Hand N C)) → AllZip (HandDid hub gives tells shows turns) hs ks → All (MayEnd hub) ks
+did_end hub gives tells shows turns [] [] did = All-nil (MayEnd hub)
+did_end hub gives tells shows turns [] (k ∷ ks) did = absurd did
+did_end hub gives tells shows turns (h ∷ hs) [] did = absurd did
+did_end hub gives tells shows turns (h ∷ hs) (k ∷ ks) did = All-cons (MayEnd hub) k ks did.0.ends (did_end hub gives tells shows turns hs ks did.1)
 
-module _ {N C : Type 0} (hub : SharedHub) (gives : N → List ℕ → Ask → Came → N → Type 0) (moment : C → ℕ) (pauses : C → Option Pauses) (turns : ℕ)
+module _ {N C : Type 0} (hub : SharedHub) (gives : N → List ℕ → Ask → Came → N → Type 0) (tells : C → Tick → ℕ → C → Type 0) (shows : C → ClockView) (turns : ℕ)
     (old hired new : Knowledge) (tools left after : List (Tool N C)) where
   none_worked : (hs : List (Hand N C)) (result : Result (Unit {0}) CrewFault) (o : Option Spent) → IsHired hub old tools result hired left hs → IsBack hired left hs o new after →
-      NoneWorked hub gives moment pauses turns old tools new after
+      NoneWorked hub gives tells shows turns old tools new after
   none_worked hs result o h b =
       let w = waited hub old hs h.ready h.behind in record {
         idlers = record {
@@ -107,7 +107,7 @@ module _ {N C : Type 0} (hub : SharedHub) (gives : N → List ℕ → Ask → Ca
 
   -- a pass could not be split off
   pub crew_lacks : (hs : List (Hand N C)) (e : CrewFault) (o : Option Spent) → IsHired hub old tools (Err e) hired left hs → IsBack hired left hs o new after →
-      CrewDid hub gives moment pauses turns old tools (Err e) new after
+      CrewDid hub gives tells shows turns old tools (Err e) new after
   crew_lacks hs fault.Memory o h b =
       let none = unspent hub old hs h.ready in
       let total_is = b.spends_are in
@@ -124,10 +124,10 @@ module _ {N C : Type 0} (hub : SharedHub) (gives : N → List ℕ → Ask → Ca
         spent = omega (arith, total_is, spent);
       }
 
-  all_worked : (hs ks : List (Hand N C)) (o : Option Spent) → left ≡ [] → IsHired hub old tools (Ok tt) hired left hs → AllZip (HandDid hub gives moment pauses turns) hs ks →
-      IsBack hired left ks o new after → AllWorked hub gives moment pauses turns old tools new after
+  all_worked : (hs ks : List (Hand N C)) (o : Option Spent) → left ≡ [] → IsHired hub old tools (Ok tt) hired left hs → AllZip (HandDid hub gives tells shows turns) hs ks →
+      IsBack hired left ks o new after → AllWorked hub gives tells shows turns old tools new after
   all_worked hs ks o none h did b =
-      let w = collected hub gives moment pauses turns old hs ks did h.behind in record {
+      let w = collected hub gives tells shows turns old hs ks did h.behind in record {
         stints = w.stints;
         each = w.each;
         tools_are = w.tools_are ∙ (sym (ap (λ ts. ts ++ backwards tool_of hs []) none) ∙ h.tools_are);
@@ -135,16 +135,16 @@ module _ {N C : Type 0} (hub : SharedHub) (gives : N → List ℕ → Ask → Ca
         ended = b.ended ∙ (ap (λ es. es ++ backwards left_by ks []) h.ended ∙ ap (λ es. old.ended ++ es) (sym w.left_are));
       }
 
-  pub crew_done : (hs ks : List (Hand N C)) → left ≡ [] → IsHired hub old tools (Ok tt) hired left hs → AllZip (HandDid hub gives moment pauses turns) hs ks →
-      IsBack hired left ks None new after → CrewDid hub gives moment pauses turns old tools (Ok tt) new after
+  pub crew_done : (hs ks : List (Hand N C)) → left ≡ [] → IsHired hub old tools (Ok tt) hired left hs → AllZip (HandDid hub gives tells shows turns) hs ks →
+      IsBack hired left ks None new after → CrewDid hub gives tells shows turns old tools (Ok tt) new after
   crew_done hs ks none h did b = record {
     goes = goes_both old hired new h.goes b.goes;
     worked = all_worked hs ks None none h did b;
     spent = b.spent_is ∙ h.spent;
   }
 
-  pub crew_spent : (hs ks : List (Hand N C)) (s : Spent) → left ≡ [] → IsHired hub old tools (Ok tt) hired left hs → AllZip (HandDid hub gives moment pauses turns) hs ks →
-      IsBack hired left ks (Some s) new after → CrewDid hub gives moment pauses turns old tools (Err (fault.Spent s)) new after
+  pub crew_spent : (hs ks : List (Hand N C)) (s : Spent) → left ≡ [] → IsHired hub old tools (Ok tt) hired left hs → AllZip (HandDid hub gives tells shows turns) hs ks →
+      IsBack hired left ks (Some s) new after → CrewDid hub gives tells shows turns old tools (Err (fault.Spent s)) new after
   crew_spent hs ks s none h did b =
       let rose = b.spent_is in
       let level = h.spent in record {

@@ -3,7 +3,7 @@ use Rattle.std.specs.Prelude.{◌≡◌, ◌⊎◌, ℕ, true, List, ◌++◌, A
 use mathlib.Core.List.{IsPrefix}
 use Rattle.grid_types.specs.Legal.{legal}
 use Rattle.grid_types.specs.Safe.{IsSafe}
-use Rattle.grid_outside.specs.Told.{Pauses}
+use Rattle.grid_outside.specs.Told.{ClockView, Tick}
 use Rattle.grid_outside.specs.declared.exchange.Ask.{Ask}
 use Rattle.grid_outside.specs.Exchanges.{Came}
 use Rattle.turn_cell.specs.Steps.{ended_of}
@@ -32,14 +32,14 @@ pub record Idlers (old new : Knowledge) : Type 0 where
   pub each : All (λ v. IsFresh v × IsPrefix old.seen v.seen) passes
   pub ended : new.ended ≡ old.ended ++ map ended_of passes
 
-module _ {N C : Type 0} (hub : SharedHub) (gives : N → List ℕ → Ask → Came → N → Type 0) (moment : C → ℕ) (pauses : C → Option Pauses) (turns : ℕ) where
+module _ {N C : Type 0} (hub : SharedHub) (gives : N → List ℕ → Ask → Came → N → Type 0) (tells : C → Tick → ℕ → C → Type 0) (shows : C → ClockView) (turns : ℕ) where
   -- From a pass that was split off behind all that the crew's pass had seen, a worker made its turns, or as many as the
   -- hub had tickets for. What it has seen is legal and safe.
   pub record IsStint (before : Knowledge) (s : Stint (Tool N C)) : Type 0 where
     pub fresh : IsFresh s.known
     pub behind : IsPrefix before.seen s.known.seen
-    pub worked : Worked hub gives WorkerTurn WorkerSpent turns
-        (world_with moment pauses s.known s.tool) s.end (world_with moment pauses s.known_after s.tool_after)
+    pub worked : Worked hub gives tells WorkerTurn WorkerSpent turns
+        (world_with shows s.known s.tool) s.end (world_with shows s.known_after s.tool_after)
     pub is_legal : legal (config_of hub) (past s.known_after) ≡ true
     pub is_safe : IsSafe (past s.known_after)
 

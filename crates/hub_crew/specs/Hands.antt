@@ -6,7 +6,7 @@ use Rattle.grid_types.specs.declared.spent.Spent.{Spent}
 use Rattle.grid_types.specs.Legal.{legal}
 use Rattle.grid_types.specs.Lists.{total}
 use Rattle.grid_types.specs.Safe.{IsSafe}
-use Rattle.grid_outside.specs.Told.{Pauses}
+use Rattle.grid_outside.specs.Told.{ClockView, Tick}
 use Rattle.grid_outside.specs.declared.exchange.Ask.{Ask}
 use Rattle.grid_outside.specs.Exchanges.{Came}
 use Rattle.turn_cell.specs.declared.views.Ended.{Ended}
@@ -117,15 +117,15 @@ module _ {N C : Type 0} where
     pub tools_are : tools_after ≡ tools ++ backwards tool_of hands []
 
 -- what a pass knows, and what it works with
-abbrev pub world_with : {N C : Type 0} → (C → ℕ) → (C → Option Pauses) → Knowledge → Tool N C → World N
-world_with moment pauses known tool = world_of known tool.nodes (moment tool.clock) (pauses tool.clock)
+abbrev pub world_with : {N C : Type 0} → (C → ClockView) → Knowledge → Tool N C → World N C
+world_with shows known tool = world_of known tool.nodes tool.clock (shows tool.clock)
 
-module _ {N C : Type 0} (hub : SharedHub) (gives : N → List ℕ → Ask → Came → N → Type 0) (moment : C → ℕ) (pauses : C → Option Pauses) where
+module _ {N C : Type 0} (hub : SharedHub) (gives : N → List ℕ → Ask → Came → N → Type 0) (tells : C → Tick → ℕ → C → Type 0) (shows : C → ClockView) where
   -- a worker made its turns
   pub record HandDid (turns : ℕ) (old new : Hand N C) : Type 0 where
     pub fresh : IsFresh (knows old.pass)
     pub ends : MayEnd hub new
-    pub worked : Worked hub gives WorkerTurn WorkerSpent turns
-        (world_with moment pauses (knows old.pass) old.tool) new.end (world_with moment pauses (knows new.pass) new.tool)
+    pub worked : Worked hub gives tells WorkerTurn WorkerSpent turns
+        (world_with shows (knows old.pass) old.tool) new.end (world_with shows (knows new.pass) new.tool)
     pub is_legal : legal (config_of hub) (past (knows new.pass)) ≡ true
     pub is_safe : IsSafe (past (knows new.pass))

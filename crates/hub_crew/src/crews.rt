@@ -24,7 +24,7 @@ fn one_works<R: Wait, N: NodeLink + Drop, C: Clock + Drop>(
     hand: &mut Hand<N, C>,
 )
     requires { IsReady hub.now hand.old }
-    ensures { HandDid hub.now N.gives C.moment C.pauses turns hand.old hand.new }
+    ensures { HandDid hub.now N.gives C.gives C.view turns hand.old hand.new }
 {
     hand.end = worker(
         rt,
@@ -48,7 +48,7 @@ fn all_work<R: Threads + Wait + Sync, N: NodeLink + Send + Drop, C: Clock + Send
     hands: &mut [Hand<N, C>],
 )
     requires ready { All (IsReady hub.now) hands.old }
-    ensures did { AllZip (HandDid hub.now N.gives C.moment C.pauses turns) hands.old hands.new }
+    ensures did { AllZip (HandDid hub.now N.gives C.gives C.view turns) hands.old hands.new }
 {
     let count = hands.len();
     if count == 0 {
@@ -60,7 +60,7 @@ fn all_work<R: Threads + Wait + Sync, N: NodeLink + Send + Drop, C: Clock + Send
         count,
         &|_, hand: &mut Hand<N, C>|
             requires { IsReady hub.now hand.now }
-            ensures { HandDid hub.entry.now N.gives C.moment C.pauses turns hand.entry.now hand.exit.now }
+            ensures { HandDid hub.entry.now N.gives C.gives C.view turns hand.entry.now hand.exit.now }
         { one_works(rt, alloc, hub, turns, hand) },
     );
 }
@@ -74,7 +74,7 @@ fn all_listed_work<R: Threads + Wait + Sync, N: NodeLink + Send + Drop, C: Clock
     hands: &mut Vec<Hand<N, C>>,
 )
     requires ready { All (IsReady hub.now) hands.old.items }
-    ensures did { AllZip (HandDid hub.now N.gives C.moment C.pauses turns) hands.old.items hands.new.items }
+    ensures did { AllZip (HandDid hub.now N.gives C.gives C.view turns) hands.old.items hands.new.items }
     ensures count { vec_len hands.new ≡ vec_len hands.old }
 {
     all_work(rt, alloc, hub, turns, hands.as_mut_slice());
@@ -95,7 +95,7 @@ pub fn crew<R: Threads + Wait + Sync, N: NodeLink + Send + Drop, C: Clock + Send
     ensures own { IsOf hub.now pass.new }
     ensures spares { spares_of pass.old ≤ spares_of pass.new }
     ensures count { vec_len tools.new ≡ vec_len tools.old }
-    ensures did { CrewDid hub.now N.gives C.moment C.pauses turns (knows pass.old) tools.old.items result (knows pass.new) tools.new.items }
+    ensures did { CrewDid hub.now N.gives C.gives C.view turns (knows pass.old) tools.old.items result (knows pass.new) tools.new.items }
 {
     // It has at most so many spare readers as fit into its count of them.
     pass.spares();

@@ -2,14 +2,14 @@
 use Rattle.std.proofs.Common.{◌≡◌, inl, inr, ℕ, ◌≤◌, false, List, [], ◌++◌, length, refl, sym, ap, subst, ◌∙◌, append-nil, append_assoc, arith}
 use Rattle.std.specs.Prelude.{Option, None, Some}
 use Rattle.grid_outside.specs.Counts.{Rose}
-use Rattle.grid_outside.specs.Told.{Gains}
+use Rattle.grid_outside.specs.Told.{Gains, LinkView}
 use Rattle.node_client.specs.Held.{Token}
 use Rattle.conn_script.specs.declared.wants.Answer.{Answer}
 use Rattle.conn_script.specs.declared.wants.Answer.TheVariants as told
 use Rattle.conn_script.specs.Wanted.{Fits, IsAwaited, Made, Wanted, bytes_in, count, finds_spent, piece, taken_of, to_read, to_write, told_tokens}
 use Rattle.hub_conn.specs.declared.talk.Talk.{Talk}
 use Rattle.hub_conn.specs.Talk.{Cause, KeepsTokens, of_read, of_write, of_end, of_nothing, cause_after, cause_of, tokens}
-use Rattle.hub_links.specs.Links.{LinkView, Moved, RoseFor}
+use Rattle.hub_links.specs.Links.{Moved, RoseFor}
 
 pub gains_none : (o : Option (List ℕ)) → Gains o o []
 gains_none None = tt

@@ -1,23 +1,11 @@
 -- What a link tells, and how that goes on.
-use Rattle.std.specs.Prelude.{◌≡◌, ℕ, ◌<◌, ◌≤◌, List, length, Option}
+use Rattle.std.specs.Prelude.{◌≡◌, ℕ, ◌<◌, ◌≤◌, List, length}
 use Rattle.grid_outside.specs.Counts.{Rose}
-use Rattle.grid_outside.specs.Told.{Gains}
+use Rattle.grid_outside.specs.Told.{Gains, LinkView}
 use Rattle.conn_script.specs.declared.wants.Answer.{Answer}
 use Rattle.conn_script.specs.declared.wants.Answer.TheVariants as told
 use Rattle.conn_script.specs.Wanted.{Awaited, IsAwaited}
 use Rattle.hub_conn.specs.Talk.{Cause, of_read, of_write, of_end, of_nothing, cause_of}
-
--- what a link tells: the bytes that it gave and those that it took, where it tells them, and its counts
-pub record LinkView : Type 0 where
-  pub given : Option (List ℕ)
-  pub taken : Option (List ℕ)
-  pub read_faults : ℕ
-  pub write_faults : ℕ
-  pub ends : ℕ
-
-abbrev pub link_of : Option (List ℕ) → Option (List ℕ) → ℕ → ℕ → ℕ → LinkView
-link_of given taken read_faults write_faults ends =
-    record { given = given; taken = taken; read_faults = read_faults; write_faults = write_faults; ends = ends }
 
 -- it gave just these bytes and took just those, where it tells them, and no count fell
 pub record Moved (old : LinkView) (bytes written : List ℕ) (new : LinkView) : Type 0 where

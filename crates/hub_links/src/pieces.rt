@@ -1,7 +1,7 @@
 //! What a link gives and takes, piece by piece.
 ghost use Rattle.std.specs.Prelude.{◌≡◌, ℕ, ◌<◌, [], length};
 ghost use Rattle.conn_script.specs.Wanted.{bytes_in, count, piece, taken_of, to_write};
-ghost use Rattle.hub_links.specs.Links.{DoesLink, MovesSome, link_of};
+ghost use Rattle.hub_links.specs.Links.{DoesLink, MovesSome};
 
 use grid_outside::Link;
 use hub_conn::Answer;
@@ -11,8 +11,8 @@ pub fn read_piece<'b, L: Link>(link: &mut L, most: u32, buffer: &'b mut [u8]) ->
     requires few { 0 < most }
     requires room { 0 < length buffer.old }
     ensures reads { DoesLink result (piece most)
-        (link_of (L.given link.old) (L.taken link.old) (L.read_faults link.old) (L.write_faults link.old) (L.ends link.old)) (bytes_in result) []
-        (link_of (L.given link.new) (L.taken link.new) (L.read_faults link.new) (L.write_faults link.new) (L.ends link.new)) }
+        (L.view link.old) (bytes_in result) []
+        (L.view link.new) }
     ensures some { MovesSome result }
     ensures same { L.Same link.old link.new }
 {
@@ -27,8 +27,8 @@ pub fn read_piece<'b, L: Link>(link: &mut L, most: u32, buffer: &'b mut [u8]) ->
 /// Writes some of the bytes.
 pub fn write_some<L: Link>(link: &mut L, bytes: &[u8]) -> Answer<'static>
     ensures writes { DoesLink result (count (length bytes.now))
-        (link_of (L.given link.old) (L.taken link.old) (L.read_faults link.old) (L.write_faults link.old) (L.ends link.old)) [] (taken_of result (to_write bytes.now))
-        (link_of (L.given link.new) (L.taken link.new) (L.read_faults link.new) (L.write_faults link.new) (L.ends link.new)) }
+        (L.view link.old) [] (taken_of result (to_write bytes.now))
+        (L.view link.new) }
     ensures some { 0 < length bytes.now → MovesSome result }
     ensures same { L.Same link.old link.new }
 {

@@ -1,11 +1,17 @@
 -- The statuses of the hub's program.
 use Rattle.std.specs.Prelude.{◌≡◌, ℕ, ◌≤◌, ◌⊎◌}
 use Rattle.grid_outside.specs.Counts.{Rose}
+use Rattle.grid_outside.specs.Told.{DoorView}
 
--- The links ended: the door was found closed, or it failed, or there was no memory; its ends and faults before and after.
-pub record HasRun (ends0 ends1 faults0 faults1 status : ℕ) : Type 0 where
-  pub closed : status ≡ 0 → Rose ends0 ends1
-  pub failed : status ≡ 3 → Rose faults0 faults1
-  pub ends_later : ends0 ≤ ends1
-  pub faults_later : faults0 ≤ faults1
+-- no count of a door fell, and it is bound where it was
+pub record NoneFell (old new : DoorView) : Type 0 where
+  pub ends : old.ends ≤ new.ends
+  pub faults : old.faults ≤ new.faults
+  pub bound : new.bound ≡ old.bound
+
+-- The links ended behind a door that is bound: it was found closed, or it failed, or there was no memory.
+pub record HasRun (old new : DoorView) (status : ℕ) : Type 0 where
+  pub closed : status ≡ 0 → Rose old.ends new.ends
+  pub failed : status ≡ 3 → Rose old.faults new.faults
+  pub later : NoneFell old new
   pub statuses : (status ≡ 0) ⊎ ((status ≡ 3) ⊎ (status ≡ 5))

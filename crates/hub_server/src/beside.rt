@@ -95,7 +95,7 @@ fn serve_to_the_end<R: Threads + Wait + Sync, D: Door>(
     door: &mut D,
 ) -> u8
     requires own { All (IsOf hub.now) passes.items }
-    ensures { HasRun (D.ends door.old) (D.ends door.new) (D.faults door.old) (D.faults door.new) result }
+    ensures { HasRun (D.view door.old) (D.view door.new) result }
 {
     let status = serve_links(rt, alloc, hub, passes, door);
     done.store(true, Ordering::SeqCst);
@@ -114,7 +114,7 @@ fn serve_beside_ticker<R: Threads + Wait + Sync, D: Door>(
     door: &mut D,
 ) -> u8
     requires own { IsOf hub.now ticking × All (IsOf hub.now) passes.items }
-    ensures { HasRun (D.ends door.old) (D.ends door.new) (D.faults door.old) (D.faults door.new) result }
+    ensures { HasRun (D.view door.old) (D.view door.new) result }
 {
     let lent = &mut *door;
     let (_, (lent, status)) = join(
@@ -125,7 +125,7 @@ fn serve_beside_ticker<R: Threads + Wait + Sync, D: Door>(
         move || -> (&mut D, u8)
             requires { IsSync R.row × All (IsOf hub.now) passes.items }
             ensures { (result.0.ghost_name ≡ lent.entry.ghost_name)
-                × HasRun (D.ends lent.entry.now) (D.ends result.0.now) (D.faults lent.entry.now) (D.faults result.0.now) result.1 }
+                × HasRun (D.view lent.entry.now) (D.view result.0.now) result.1 }
         {
             let status = serve_to_the_end(rt, alloc, hub, passes, done, lent);
             (lent, status)
@@ -150,7 +150,7 @@ pub(crate) fn serve_beside_all<R: Threads + Wait + Sync, D: Door>(
 ) -> u8
     requires own { IsOf hub.now first × IsOf hub.now ticking × All (IsOf hub.now) passes.items }
     requires spares { vec_len tools ≤ spares_of first }
-    ensures { HasRun (D.ends door.old) (D.ends door.new) (D.faults door.old) (D.faults door.new) result }
+    ensures { HasRun (D.view door.old) (D.view door.new) result }
 {
     let flag = AtomicBool::new(false);
     let done = &flag;
@@ -163,7 +163,7 @@ pub(crate) fn serve_beside_all<R: Threads + Wait + Sync, D: Door>(
         move || -> (&mut D, u8)
             requires { IsSync R.row × IsOf hub.now ticking × All (IsOf hub.now) passes.items }
             ensures { (result.0.ghost_name ≡ lent.entry.ghost_name)
-                × HasRun (D.ends lent.entry.now) (D.ends result.0.now) (D.faults lent.entry.now) (D.faults result.0.now) result.1 }
+                × HasRun (D.view lent.entry.now) (D.view result.0.now) result.1 }
         {
             let status = serve_beside_ticker(rt, alloc, hub, ticking, tool, passes, done, lent);
             (lent, status)

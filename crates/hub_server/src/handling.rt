@@ -64,7 +64,7 @@ fn handle<R: Wait, L: Link + Drop, N: NodeLink + Drop, C: Clock + Drop>(
 
 /// Accepts links until the door is closed or fails. Each waits until a handler is free.
 fn accept_links<R: Wait, D: Door>(rt: &R, door: &mut D, jobs: &Sender<Job<D::L, D::N, D::C>>) -> u8
-    ensures { HasRun (D.ends door.old) (D.ends door.new) (D.faults door.old) (D.faults door.new) result }
+    ensures { HasRun (D.view door.old) (D.view door.new) result }
 {
     for _ in rt.forever() {
         let link = match door.accept() {
@@ -88,7 +88,7 @@ fn accept_for<R: Wait, D: Door>(
     jobs: &Sender<Job<D::L, D::N, D::C>>,
     handlers: usize,
 ) -> u8
-    ensures { HasRun (D.ends door.old) (D.ends door.new) (D.faults door.old) (D.faults door.new) result }
+    ensures { HasRun (D.view door.old) (D.view door.new) result }
 {
     if handlers == 0 {
         return NO_MEMORY;
@@ -110,7 +110,7 @@ fn serve_at<'a, R: Threads + Wait + Sync, D: Door>(
     door: &mut D,
 ) -> u8
     requires own { All (IsOf desk.now.hub.now) passes.items }
-    ensures { HasRun (D.ends door.old) (D.ends door.new) (D.faults door.old) (D.faults door.new) result }
+    ensures { HasRun (D.view door.old) (D.view door.new) result }
 {
     let lent = &mut *door;
     let (lent, status) = thread::scope(
@@ -119,7 +119,7 @@ fn serve_at<'a, R: Threads + Wait + Sync, D: Door>(
         move |scope| -> (&mut D, u8)
             requires { All (IsOf desk.now.hub.now) passes.items }
             ensures { (result.0.ghost_name ≡ lent.entry.ghost_name)
-                × HasRun (D.ends lent.entry.now) (D.ends result.0.now) (D.faults lent.entry.now) (D.faults result.0.now) result.1 }
+                × HasRun (D.view lent.entry.now) (D.view result.0.now) result.1 }
         {
             let mut handlers = 0usize;
             for pass in passes {
@@ -150,7 +150,7 @@ pub(crate) fn serve_links<R: Threads + Wait + Sync, D: Door>(
     door: &mut D,
 ) -> u8
     requires own { All (IsOf hub.now) passes.items }
-    ensures { HasRun (D.ends door.old) (D.ends door.new) (D.faults door.old) (D.faults door.new) result }
+    ensures { HasRun (D.view door.old) (D.view door.new) result }
 {
     let Ok((sender, receiver)) = bounded(alloc, 1) else {
         return NO_MEMORY;

@@ -1,11 +1,11 @@
 //! The whole of the hub's program, over any door.
-ghost use Rattle.std.specs.Prelude.{◌≡◌, ◌≤◌, ◌⊎◌, ◌+◌, IfOk, vec_len};
+ghost use Rattle.std.specs.Prelude.{◌≡◌, ◌≤◌, ◌⊎◌, ◌+◌, Some, IfOk, vec_len};
 ghost use Rattle.grid_types.specs.Config.{IsValid};
 ghost use Rattle.grid_outside.specs.Counts.{Rose};
 ghost use Rattle.hub_cell.specs.Passes.{IsOf, spares_of};
-ghost use Rattle.server_words.specs.HubOptions.{AreWithin, hub_command};
+ghost use Rattle.server_words.specs.HubOptions.{AreWithin, hub_command, hub_said};
 ghost use Rattle.server_words.specs.Options.{IsTaken};
-ghost use Rattle.hub_server.specs.Statuses.{HasRun};
+ghost use Rattle.hub_server.specs.Statuses.{HasRun, NoneFell};
 
 use crate::beside::serve_beside_all;
 use crate::handling::{DOOR_FAILED, NO_MEMORY};
@@ -24,7 +24,7 @@ const REFUSED: u8 = 2;
 
 /// What one worker or the ticker works with.
 fn tool_of<D: Door>(door: &mut D) -> Tool<D::N, D::C>
-    ensures later { (D.ends door.old ≤ D.ends door.new) × (D.faults door.old ≤ D.faults door.new) }
+    ensures later { NoneFell (D.view door.old) (D.view door.new) }
 {
     let nodes = door.nodes();
     let clock = door.clock();
@@ -38,7 +38,7 @@ fn tools_of<D: Door>(
     count: usize,
 ) -> Result<Vec<Tool<D::N, D::C>>, NoMemory>
     ensures count { IfOk result (λ tools. vec_len tools ≡ count) }
-    ensures later { (D.ends door.old ≤ D.ends door.new) × (D.faults door.old ≤ D.faults door.new) }
+    ensures later { NoneFell (D.view door.old) (D.view door.new) }
 {
     let Ok(mut tools) = Vec::with_capacity(alloc, count) else {
         return Err(NoMemory);
@@ -63,7 +63,7 @@ fn serve_with_handlers<R: Threads + Wait + Sync, D: Door>(
 ) -> u8
     requires own { IsOf hub.now first × IsOf hub.now ticking }
     requires spares { vec_len tools + handlers ≤ spares_of first }
-    ensures { HasRun (D.ends door.old) (D.ends door.new) (D.faults door.old) (D.faults door.new) result }
+    ensures { HasRun (D.view door.old) (D.view door.new) result }
 {
     let Ok(mut passes) = Vec::with_capacity(alloc, handlers) else {
         return NO_MEMORY;
@@ -87,7 +87,7 @@ fn serve_with_ticker<R: Threads + Wait + Sync, D: Door>(
 ) -> u8
     requires own { IsOf hub.now first }
     requires spares { vec_len tools + handlers + 1 ≤ spares_of first }
-    ensures { HasRun (D.ends door.old) (D.ends door.new) (D.faults door.old) (D.faults door.new) result }
+    ensures { HasRun (D.view door.old) (D.view door.new) result }
 {
     let Ok(ticking) = another(rt, hub, &mut first) else {
         return NO_MEMORY;
@@ -103,7 +103,7 @@ fn serve_hub<R: Threads + Wait + Sync, D: Door>(
     door: &mut D,
 ) -> u8
     requires within { AreWithin words.now × IsValid words.now.config }
-    ensures { HasRun (D.ends door.old) (D.ends door.new) (D.faults door.old) (D.faults door.new) result }
+    ensures { HasRun (D.view door.old) (D.view door.new) result }
 {
     let Ok(tools) = tools_of(alloc, door, words.workers as usize) else {
         return NO_MEMORY;
@@ -132,11 +132,15 @@ pub fn hub_main<R: Threads + Wait + Sync, D: Door>(
     words: &[Text],
     door: &mut D,
 ) -> u8
-    ensures closed { result ≡ 0 → Rose (D.ends door.old) (D.ends door.new) }
+    ensures closed { result ≡ 0 → Rose (D.view door.old).ends (D.view door.new).ends }
     ensures misfit { result ≡ 2 → ¬ (IsTaken hub_command words.now) }
     ensures refuses { ¬ (IsTaken hub_command words.now) → (result ≡ 2) ⊎ (result ≡ 5) }
-    ensures failed { result ≡ 3 → Rose (D.faults door.old) (D.faults door.new) }
-    ensures later { (D.ends door.old ≤ D.ends door.new) × (D.faults door.old ≤ D.faults door.new) }
+    ensures failed { result ≡ 3 → Rose (D.view door.old).faults (D.view door.new).faults }
+    ensures later { ((D.view door.old).ends ≤ (D.view door.new).ends) × ((D.view door.old).faults ≤ (D.view door.new).faults) }
+    // It listens where the words say, and is bound nowhere else.
+    ensures listens { result ≡ 0 → (D.view door.new).bound ≡ Some (hub_said words.now).port }
+    ensures bound { ((D.view door.new).bound ≡ (D.view door.old).bound)
+        ⊎ ((D.view door.new).bound ≡ Some (hub_said words.now).port) }
     ensures statuses { (result ≡ 0) ⊎ ((result ≡ 2) ⊎ ((result ≡ 3) ⊎ (result ≡ 5))) }
 {
     match hub_words(alloc, words) {

@@ -1,3 +1,4 @@
 pub mod Calls
 pub mod Outside
+pub mod Served
 pub mod Serving

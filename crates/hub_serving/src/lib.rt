@@ -8,7 +8,6 @@
 #![tactic(auto)]
 
 mod calls;
-mod pieces;
 mod serving;
 
 pub use hub_conn::{ConnFault, End, Served};

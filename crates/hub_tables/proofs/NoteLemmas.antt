@@ -20,7 +20,7 @@ use Rattle.grid_types.specs.Legal.{legal}
 use Rattle.grid_types.specs.Lists.{numbers_from}
 use Rattle.grid_types.specs.OneMoreEntry.{NumberedOneByOne}
 use Rattle.grid_types.specs.Tables.{entry, Follows, FollowsGiven}
-use Rattle.dispatch_laws.specs.Memory.{below_kept}
+use Rattle.request_laws.specs.Memory.{below_kept}
 use Rattle.node_registry.specs.declared.node_table.NodeTable.{NodeTable}
 use Rattle.node_registry.specs.Table as of_node
 use Rattle.reservation.specs.declared.slot_table.SlotTable.{SlotTable}

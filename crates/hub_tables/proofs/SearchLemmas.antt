@@ -6,7 +6,7 @@ use Rattle.grid_types.specs.declared.names.Moment.{Moment}
 use Rattle.grid_types.specs.Choice.{chosen}
 use Rattle.grid_types.specs.Fit.{fits}
 use Rattle.grid_types.specs.Laws.{NoneFits}
-use Rattle.dispatch_laws.specs.Memory.{NothingFits, LaterIsNarrower, nobody}
+use Rattle.request_laws.specs.Memory.{NothingFits, LaterIsNarrower, nobody}
 use Rattle.hub_tables.specs.declared.tables.HubTables.{HubTables}
 use Rattle.hub_tables.specs.Tables.{Keeps, Tells}
 

@@ -1,6 +1,6 @@
 -- What the laws of the crates below tell of each change.
 use Rattle.grid_types.specs.Tables.{OthersKeep, is_node_change, is_slot_change, is_request_change, is_session_change}
-use Rattle.dispatch_laws.specs.Memory.{BelowStays}
+use Rattle.request_laws.specs.Memory.{BelowStays}
 use Rattle.node_registry.specs.Table as of_node
 use Rattle.reservation.specs.Table as of_slot
 use Rattle.session_queue.specs.Table as of_request

@@ -7,7 +7,7 @@ use Rattle.grid_types.specs.History.{clock, next_node, next_request}
 use Rattle.grid_types.specs.Legal.{legal}
 use Rattle.grid_types.specs.Slots.{is_listed}
 use Rattle.grid_types.specs.Tables.{entry}
-use Rattle.dispatch_laws.specs.Memory.{NothingFits, nobody}
+use Rattle.request_laws.specs.Memory.{NothingFits, nobody}
 use Rattle.node_registry.specs.Table as of_node
 use Rattle.reservation.specs.Table as of_slot
 use Rattle.session_queue.specs.Table as of_request

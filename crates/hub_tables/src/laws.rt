@@ -1,7 +1,7 @@
 //! The laws of the crates below by which each change is proved, in one.
 ghost use Rattle.hub_tables.specs.Laws.{TableLaws};
 
-use dispatch_laws::nothing_stays;
+use request_laws::nothing_stays;
 
 /// A change that a table doesn't take leaves it standing, and what is remembered of a search stays.
 pub(crate) fn table_laws()

@@ -11,8 +11,8 @@ use Rattle.grid_types.specs.Requests.{place, is_waiting, choices_of}
 use Rattle.grid_types.specs.Fit.{fits}
 use Rattle.grid_types.specs.Choice.{chosen}
 use Rattle.hub_walks.specs.Laws.{Known, laws}
-use Rattle.dispatch_laws.specs.Kinds.{is_alike, choices_in, kinds}
-use Rattle.dispatch_laws.specs.Leads.{HasLead, LeadKinds}
+use Rattle.request_laws.specs.Kinds.{is_alike, choices_in, kinds}
+use Rattle.request_laws.specs.Leads.{HasLead, LeadKinds}
 use Rattle.session_queue.specs.Table.{IsInTime, FindsInTime}
 use Rattle.hub_walks.specs.declared.assignment.Assignment.{Assignment}
 use Rattle.hub_walks.specs.First.{as_chosen, IsFound, IsMore, is_passed, request_of}

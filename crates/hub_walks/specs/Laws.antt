@@ -1,6 +1,6 @@
 -- The laws of the crates below by which each answer is proved.
 use Rattle.grid_types.specs.HistoryLaws as of_history
-use Rattle.dispatch_laws.specs.KindLaws.{KindLaws}
+use Rattle.request_laws.specs.KindLaws.{KindLaws}
 use Rattle.node_registry.specs.Table.{NodesInOrder}
 use Rattle.session_queue.specs.RequestLaws.{RequestLaws}
 use Rattle.slot_select.specs.Select.{FullIsPassed}

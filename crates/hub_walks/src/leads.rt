@@ -4,8 +4,8 @@ ghost use Rattle.std.specs.Prelude.{◌≡◌, ◌+◌, ◌*◌, ◌≤◌, ◌+
 ghost use Rattle.std.specs.List.{list_any};
 ghost use Rattle.grid_types.specs.History.{nodes as nodes_of};
 ghost use Rattle.grid_types.specs.Requests.{place, is_waiting, choices_of};
-ghost use Rattle.dispatch_laws.specs.Kinds.{choices_in};
-ghost use Rattle.dispatch_laws.specs.Leads.{LeadKinds};
+ghost use Rattle.request_laws.specs.Kinds.{choices_in};
+ghost use Rattle.request_laws.specs.Leads.{LeadKinds};
 ghost use Rattle.grid_types.specs.Tables.{Tells};
 ghost use Rattle.session_queue.specs.Table.{Stands};
 ghost use Rattle.hub_walks.specs.Stand.{AllTell};

@@ -11,7 +11,7 @@ use Rattle.hub_core.specs.declared.answers.Failing.{Failing}
 use Rattle.hub_core.specs.Replies.{binding_reply, KeepsReservation}
 use Rattle.hub_core.specs.Serves.{hands_reservation}
 use Rattle.http_frames.specs.declared.writing.NodeRequest.{NodeRequest}
-use Rattle.grid_outside.specs.Told.{Pauses}
+use Rattle.grid_outside.specs.Told.{ClockView, Tick}
 use Rattle.grid_outside.specs.declared.exchange.Ask.{Ask}
 use Rattle.grid_outside.specs.Exchanges.{Came, ask_of}
 use Rattle.grid_types.specs.declared.spent.Spent as spent
@@ -38,11 +38,11 @@ good_node v r _ _ _ (failed_at_node came w h) good = good
 good_node v r _ _ _ (was_returned session came) good = good
 good_node v r _ _ _ (was_quit c came) good = good
 
-module _ {N : Type 0} (hub : SharedHub) (gives : N → List ℕ → Ask → Came → N → Type 0) where
-  pub node_turn : (old new : Carry) (want : CarryWant) (address : List ℕ) (request : NodeRequest) (came : Came) (v : Knowledge) (n n' : N) (m : ℕ) (pauses : Option Pauses) →
+module _ {N C : Type 0} (hub : SharedHub) (gives : N → List ℕ → Ask → Came → N → Type 0) (tells : C → Tick → ℕ → C → Type 0) where
+  pub node_turn : (old new : Carry) (want : CarryWant) (address : List ℕ) (request : NodeRequest) (came : Came) (v : Knowledge) (n n' : N) (m : C) (time : ClockView) →
       HandsOut old want → want ≡ wants.Node address request → Feeds old (answers.Node came) new → gives n address (ask_of request) came n' →
-      Turned hub gives old (world_of v n m pauses) None new (world_of v n' m pauses)
-  node_turn old new want address request came v n n' m pauses hands is feeds gave = λ r place steps st good.
+      Turned hub gives tells old (world_of v n m time) None new (world_of v n' m time)
+  node_turn old new want address request came v n n' m time hands is feeds gave = λ r place steps st good.
       let t = hands.tells r place steps st in
       let shows : wanted_at r place ≡ to_ask address (ask_of request) = subst (λ (x : CarryWant). Shows x (wanted_at r place)) is t.shows in
       let fits : IsAsk (wanted_at r place) = subst IsAsk (sym shows) tt in
@@ -53,16 +53,16 @@ module _ {N : Type 0} (hub : SharedHub) (gives : N → List ℕ → Ask → Came
         more = Exchanged address (ask_of request) came ∷ [];
         stands = subst (λ (xs : List Step). Stands new r moved.to (steps ++ xs)) step moved.stands;
         good = good_node v r place moved.to came moved.moves good;
-        went = went_exchange hub gives v n n' address (ask_of request) came m pauses gave;
+        went = went_exchange hub gives tells v n n' address (ask_of request) came m time gave;
       }
 
-  pub call_turn : (old mid new : Carry) (call : Call) (at : ℕ) (answer : CarryAnswer) (reply : Option Reply) (v w : Knowledge) (n : N) (m m' : ℕ) (pauses pauses' : Option Pauses) →
+  pub call_turn : (old mid new : Carry) (call : Call) (at : ℕ) (answer : CarryAnswer) (reply : Option Reply) (v w : Knowledge) (n : N) (m m' : C) (time time' : ClockView) →
       ((r : Reservation) (place : Place) (steps : List Step) → Stands old r place steps → Stands mid r place steps × (wanted_at r place ≡ to_call call) × Fits answer (wanted_at r place)) →
       Feeds mid answer new → ((w : Wanted) → made answer w at ≡ called_step reply at w) → SharedServes (config_of hub) v call at reply w →
       ((r : Reservation) (place to : Place) → Moves r place answer to → HasAt v r place → HasAt w r to) →
-      Ticks m at m' pauses pauses' →
-      Turned hub gives old (world_of v n m pauses) None new (world_of w n m' pauses')
-  call_turn old mid new call at answer reply v w n m m' pauses pauses' told feeds is_step serves on ticks = λ r place steps st good.
+      Ticks tells m at m' time time' →
+      Turned hub gives tells old (world_of v n m time) None new (world_of w n m' time')
+  call_turn old mid new call at answer reply v w n m m' time time' told feeds is_step serves on ticks = λ r place steps st good.
       let t = told r place steps st in
       let moved : Moved r place answer new (steps ++ made answer (wanted_at r place) at) = feeds.moved r place steps at t.0 t.2 in
       let step : made answer (wanted_at r place) at ≡ Called call at reply ∷ [] = is_step (wanted_at r place) ∙ ap (called_step reply at) t.1 in
@@ -71,18 +71,18 @@ module _ {N : Type 0} (hub : SharedHub) (gives : N → List ℕ → Ask → Came
         more = Called call at reply ∷ [];
         stands = subst (λ (xs : List Step). Stands new r moved.to (steps ++ xs)) step moved.stands;
         good = on r place moved.to moved.moves good;
-        went = went_call hub gives v w n call at reply m m' pauses pauses' (answers_at hub v call at reply w serves) ticks;
+        went = went_call hub gives tells v w n call at reply m m' time time' (answers_at hub v call at reply w serves) ticks;
       }
 
-  pub spent_turn : (old later : Carry) (call : Call) (at : ℕ) (s : spent.Spent) (v w : Knowledge) (n : N) (m m' : ℕ) (pauses pauses' : Option Pauses) →
+  pub spent_turn : (old later : Carry) (call : Call) (at : ℕ) (s : spent.Spent) (v w : Knowledge) (n : N) (m m' : C) (time time' : ClockView) →
       ((r : Reservation) (place : Place) (steps : List Step) → Stands old r place steps → wanted_at r place ≡ to_call call) →
-      IsSpent hub v s w → Ticks m at m' pauses pauses' →
-      Turned hub gives old (world_of v n m pauses) (Some (Err s)) later (world_of w n m' pauses')
-  spent_turn old later call at s v w n m m' pauses pauses' told is ticks = λ r place steps st.
-      record { call = call; at = at; wanted = told r place steps st; went = went_spent hub gives v w n call at s m m' pauses pauses' is ticks }
+      IsSpent hub v s w → Ticks tells m at m' time time' →
+      Turned hub gives tells old (world_of v n m time) (Some (Err s)) later (world_of w n m' time')
+  spent_turn old later call at s v w n m m' time time' told is ticks = λ r place steps st.
+      record { call = call; at = at; wanted = told r place steps st; went = went_spent hub gives tells v w n call at s m m' time time' is ticks }
 
-  pub over_turn : (old : Carry) (want : CarryWant) (e : CarryEnd) (w : World N) →
-      HandsOut old want → want ≡ wants.Done e → Turned hub gives old w (Some (Ok e)) old w
+  pub over_turn : (old : Carry) (want : CarryWant) (e : CarryEnd) (w : World N C) →
+      HandsOut old want → want ≡ wants.Done e → Turned hub gives tells old w (Some (Ok e)) old w
   over_turn old want e w hands is = (
     refl,
     λ r place steps st.

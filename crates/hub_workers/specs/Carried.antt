@@ -2,6 +2,7 @@
 use Rattle.std.specs.Prelude.{◌≡◌, ℕ, List, [], ◌∷◌, ◌++◌, Option, None, Some, Result, Ok, Err}
 use Rattle.grid_types.specs.Tokens.{Reservation}
 use Rattle.grid_types.specs.Calls.{Call}
+use Rattle.grid_outside.specs.Told.{Tick}
 use Rattle.grid_outside.specs.declared.exchange.Ask.{Ask}
 use Rattle.grid_outside.specs.Exchanges.{Came}
 use Rattle.grid_types.specs.declared.spent.Spent as spent
@@ -38,23 +39,23 @@ pub record IsOver (e : CarryEnd) (r : Reservation) (place : Place) (steps : List
   pub finished : Finished e r steps
   pub place_is : place ≡ at_end e
 
-module _ {N : Type 0} (hub : SharedHub) (gives : N → List ℕ → Ask → Came → N → Type 0) where
+module _ {N C : Type 0} (hub : SharedHub) (gives : N → List ℕ → Ask → Came → N → Type 0) (tells : C → Tick → ℕ → C → Type 0) where
   -- the start and the world have gone on by the same steps
-  pub record OnwardBy (r : Reservation) (steps : List Step) (old : World N) (carry : Carry) (new : World N) : Type 0 where
+  pub record OnwardBy (r : Reservation) (steps : List Step) (old : World N C) (carry : Carry) (new : World N C) : Type 0 where
     pub to : Place
     pub more : List Step
     pub stands : Stands carry r to (steps ++ more)
     pub good : HasAt new.view r to
-    pub went : Went hub gives old more new
+    pub went : Went hub gives tells old more new
 
   -- the call that was wanted found the hub spent
-  pub record StoppedAt (r : Reservation) (place : Place) (old new : World N) : Type 0 where
+  pub record StoppedAt (r : Reservation) (place : Place) (old new : World N C) : Type 0 where
     pub call : Call
     pub at : ℕ
     pub wanted : wanted_at r place ≡ to_call call
-    pub went : Went hub gives old (Spent call at ∷ []) new
+    pub went : Went hub gives tells old (Spent call at ∷ []) new
 
-  abbrev pub Turned : Carry → World N → Option (Result CarryEnd spent.Spent) → Carry → World N → Type 0
+  abbrev pub Turned : Carry → World N C → Option (Result CarryEnd spent.Spent) → Carry → World N C → Type 0
   Turned old before None new after =
       (r : Reservation) (place : Place) (steps : List Step) → Stands old r place steps → HasAt before.view r place →
       OnwardBy r steps before new after
@@ -64,26 +65,26 @@ module _ {N : Type 0} (hub : SharedHub) (gives : N → List ℕ → Ask → Came
       (r : Reservation) (place : Place) (steps : List Step) → Stands old r place steps → StoppedAt r place before after
 
   -- on the way
-  pub record UnderWay (r : Reservation) (old : World N) (carry : Carry) (new : World N) : Type 0 where
+  pub record UnderWay (r : Reservation) (old : World N C) (carry : Carry) (new : World N C) : Type 0 where
     pub place : Place
     pub steps : List Step
     pub stands : Stands carry r place steps
     pub good : HasAt new.view r place
-    pub went : Went hub gives old steps new
+    pub went : Went hub gives tells old steps new
 
   -- the steps by which the world went on are a start of the reservation, which ended as the hub answered
-  pub record CarriedOut (r : Reservation) (old : World N) (e : CarryEnd) (new : World N) : Type 0 where
+  pub record CarriedOut (r : Reservation) (old : World N C) (e : CarryEnd) (new : World N C) : Type 0 where
     pub steps : List Step
     pub start : Start r steps
     pub bound_is : bound_one steps ≡ is_bound_end e
-    pub went : Went hub gives old steps new
+    pub went : Went hub gives tells old steps new
 
   -- they are one up to a call that found the hub spent
-  pub record CarriedOff (r : Reservation) (old new : World N) : Type 0 where
+  pub record CarriedOff (r : Reservation) (old new : World N C) : Type 0 where
     pub steps : List Step
     pub start : SpentStart r steps
-    pub went : Went hub gives old steps new
+    pub went : Went hub gives tells old steps new
 
-  abbrev pub Carried : Reservation → World N → Result CarryEnd spent.Spent → World N → Type 0
+  abbrev pub Carried : Reservation → World N C → Result CarryEnd spent.Spent → World N C → Type 0
   Carried r old (Ok e) new = CarriedOut r old e new
   Carried r old (Err s) new = CarriedOff r old new

@@ -1,11 +1,13 @@
 -- The turns of workers and of tickers.
-use Rattle.std.specs.Prelude.{◌≡◌, ◌⊎◌, ℕ, ◌+◌, ◌<◌, Bool, true, false, not, List, [], ◌∷◌, ◌++◌, Option, None, Some}
+use Rattle.std.specs.Prelude.{◌≡◌, ◌⊎◌, ℕ, ◌+◌, ◌<◌, ◌^◌, max, Bool, true, false, not, List, [], ◌∷◌, ◌++◌, Option, None, Some}
 use Rattle.grid_types.specs.Tokens.{Reservation, Closing}
 use Rattle.grid_types.specs.Calls.{Call, Reply}
+use Rattle.grid_outside.specs.Told.{Tick}
 use Rattle.grid_outside.specs.declared.exchange.Ask.{Ask}
 use Rattle.grid_outside.specs.Exchanges.{Came}
 use Rattle.grid_types.specs.declared.spent.Spent as spent
 use Rattle.hub_cell.specs.declared.hub.SharedHub.{SharedHub}
+use Rattle.hub_cell.specs.Passes.{first_of}
 use Rattle.node_client.specs.Asks.{quit_ask}
 use Rattle.node_client.specs.Runs.{Exchanges}
 use Rattle.node_client.specs.Steps.{Step, Called, Spent, Exchanged, Paused, lacked}
@@ -145,23 +147,36 @@ abbrev pub EndsSo : (IsTurn IsSpent : List Step → Type 0) → ℕ → WorkerEn
 EndsSo IsTurn IsSpent turns ends.TurnsDone steps = Turns IsTurn turns steps
 EndsSo IsTurn IsSpent turns (ends.Spent s) steps = StopsBefore IsTurn IsSpent turns steps
 
+-- the number that is told where no ticket is left
+abbrev pub IsLastTicket : SharedHub → spent.Spent → Type 0
+IsLastTicket hub s = s.ticket ≡ max (first_of hub) (2 ^ 62)
+
+abbrev pub TellsLast : SharedHub → WorkerEnd → Type 0
+TellsLast hub ends.TurnsDone = Unit {0}
+TellsLast hub (ends.Spent s) = IsLastTicket hub s
+
+-- the same of one look for an idle session
+abbrev pub LookTellsLast : SharedHub → Idle → Type 0
+LookTellsLast hub (idle.Spent s) = IsLastTicket hub s
+LookTellsLast hub found = Unit {0}
+
 -- a count of looks that found the hub spent, after such an end
 abbrev pub spent_after : ℕ → WorkerEnd → ℕ
 spent_after count ends.TurnsDone = count
 spent_after count (ends.Spent s) = count + 1
 
-module _ {N : Type 0} (hub : SharedHub) (gives : N → List ℕ → Ask → Came → N → Type 0) where
+module _ {N C : Type 0} (hub : SharedHub) (gives : N → List ℕ → Ask → Came → N → Type 0) (tells : C → Tick → ℕ → C → Type 0) where
   -- by steps of this kind the world went on
-  pub record WentBy (IsSo : List Step → Type 0) (old new : World N) : Type 0 where
+  pub record WentBy (IsSo : List Step → Type 0) (old new : World N C) : Type 0 where
     pub steps : List Step
     pub are : IsSo steps
-    pub went : Went hub gives old steps new
+    pub went : Went hub gives tells old steps new
 
   -- one turn, or one in which a call found the hub spent
-  abbrev pub OneTurn : (IsTurn IsSpent : List Step → Type 0) → World N → Option spent.Spent → World N → Type 0
+  abbrev pub OneTurn : (IsTurn IsSpent : List Step → Type 0) → World N C → Option spent.Spent → World N C → Type 0
   OneTurn IsTurn IsSpent old None new = WentBy IsTurn old new
   OneTurn IsTurn IsSpent old (Some s) new = WentBy IsSpent old new
 
   -- so many turns, or fewer and one in which a call found the hub spent
-  abbrev pub Worked : (IsTurn IsSpent : List Step → Type 0) → ℕ → World N → WorkerEnd → World N → Type 0
+  abbrev pub Worked : (IsTurn IsSpent : List Step → Type 0) → ℕ → World N C → WorkerEnd → World N C → Type 0
   Worked IsTurn IsSpent turns old end new = WentBy (EndsSo IsTurn IsSpent turns end) old new

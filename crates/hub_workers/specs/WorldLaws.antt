@@ -5,7 +5,7 @@ use mathlib.Core.List.{IsPrefix}
 use Rattle.grid_types.specs.declared.entry.Entry.{Entry}
 use Rattle.grid_types.specs.Calls.{Call, Reply}
 use Rattle.grid_types.specs.declared.entry.Found.TheVariants as found
-use Rattle.grid_outside.specs.Told.{Pauses, later_by, paused}
+use Rattle.grid_outside.specs.Told.{ClockView, Pauses, Tick, later_by, paused, to_tell, to_wait}
 use Rattle.grid_outside.specs.declared.exchange.Ask.{Ask}
 use Rattle.grid_outside.specs.Exchanges.{Came}
 use Rattle.grid_types.specs.declared.spent.Spent as spent
@@ -13,25 +13,33 @@ use Rattle.hub_cell.specs.declared.hub.SharedHub.{SharedHub}
 use Rattle.hub_cell.specs.Passes.{IsSpent, config_of}
 use Rattle.hub_cell.specs.Shared.{SharedServes, TookTurn}
 use Rattle.node_client.specs.Steps.{Step, Called, Spent, Exchanged, Paused, spent_looks}
-use Rattle.node_client.specs.Runs.{Exchanges, Still, Timed, pauses_after}
-use Rattle.node_client.specs.RunLaws.{exchanges_more, pauses_more, still_more, timed_more}
+use Rattle.node_client.specs.Runs.{Clocked, Exchanges, KeepsTime, Still, Timed, pauses_after}
+use Rattle.node_client.specs.RunLaws.{clocked_more, exchanges_more, keeps_time_more}
 use Rattle.hub_workers.specs.World.{Answered, AnswersAt, FindsInMap, Knowledge, Went, World, world_of}
 
--- a clock that tells its pauses and was not asked has stood still
-told_none : (pauses : Option Pauses) (m : ℕ) → IfSome pauses (λ p. (pauses ≡ Some p) × (m ≡ m))
-told_none None m = tt
-told_none (Some p) m = (refl, refl)
+-- a clock that was not asked kept time
+keeps_time_none : (time : ClockView) → KeepsTime time [] time
+unfolding Timed Still pauses_after
+keeps_time_none time = record { timed = omega arith; told = by_pauses time.pauses refl }
+  where
+    by_pauses : (o : Option Pauses) → time.pauses ≡ o → IfSome o (λ p. (time.pauses ≡ Some p) × (time.moment ≡ time.moment))
+    by_pauses None e = tt
+    by_pauses (Some p) e = (e, refl)
 
 -- what the clock gave at a call that followed
-pub record Ticks (m at m' : ℕ) (pauses pauses' : Option Pauses) : Type 0 where
-  pub later : m ≤ at
-  pub before : at ≤ m'
-  pub told : IfSome pauses (λ p. (pauses' ≡ Some p) × ((at ≡ m) × (m' ≡ m)))
+pub record Ticks {C : Type 0} (tells : C → Tick → ℕ → C → Type 0) (m : C) (at : ℕ) (m' : C) (time time' : ClockView) : Type 0 where
+  pub gave : tells m to_tell at m'
+  pub later : time.moment ≤ at
+  pub before : at ≤ time'.moment
+  pub told : IfSome time.pauses (λ p. (time'.pauses ≡ Some p) × ((at ≡ time.moment) × (time'.moment ≡ time.moment)))
 
-pub ticked : (m at m' : ℕ) (pauses pauses' : Option Pauses) → at ≡ m' → m ≤ m' → IfSome pauses (λ p. (pauses' ≡ Some p) × (m' ≡ m)) → Ticks m at m' pauses pauses'
-ticked m at m' pauses pauses' is later still = record { later = omega (arith, is, later); before = omega (arith, is); told = by_pauses pauses still }
+pub ticked : {C : Type 0} (tells : C → Tick → ℕ → C → Type 0) (m : C) (at : ℕ) (m' : C) (time time' : ClockView) → tells m to_tell at m' →
+    at ≡ time'.moment → time.moment ≤ time'.moment → IfSome time.pauses (λ p. (time'.pauses ≡ Some p) × (time'.moment ≡ time.moment)) → Ticks tells m at m' time time'
+ticked tells m at m' time time' gave is later still =
+    record { gave = gave; later = omega (arith, is, later); before = omega (arith, is); told = by_pauses time.pauses still }
   where
-    by_pauses : (o : Option Pauses) → IfSome o (λ p. (pauses' ≡ Some p) × (m' ≡ m)) → IfSome o (λ p. (pauses' ≡ Some p) × ((at ≡ m) × (m' ≡ m)))
+    by_pauses : (o : Option Pauses) → IfSome o (λ p. (time'.pauses ≡ Some p) × (time'.moment ≡ time.moment)) →
+        IfSome o (λ p. (time'.pauses ≡ Some p) × ((at ≡ time.moment) × (time'.moment ≡ time.moment)))
     by_pauses None h = tt
     by_pauses (Some p) h = (h.0, (is ∙ h.1, h.1))
 
@@ -53,9 +61,11 @@ serves_same : (hub : SharedHub) (old new : Knowledge) (call : Call) (at : ℕ) (
     (new.spent ≡ old.spent) × (new.number ≡ old.number) × (new.ended ≡ old.ended)
 serves_same hub old new call at reply s = (ap (λ v. v.spent) s.turn.goes, ap (λ v. v.number) s.turn.goes, ap (λ v. v.ended) s.turn.goes)
 
--- a look-up without a turn leaves all that the pass knows
-pub found_same : (old new : Knowledge) (call : Call) (reply : Option Reply) → FindsInMap old call reply new → new ≡ old
-found_same old new (Call.lookup session) (Some (Reply.found (found.At slot address binding))) f = f.0
+-- a look-up without a turn leaves all that the pass knows but for what it found
+pub found_same : (old new : Knowledge) (call : Call) (reply : Option Reply) → FindsInMap old call reply new →
+    (new.spent ≡ old.spent) × (new.number ≡ old.number) × (new.ended ≡ old.ended) × (new.seen ≡ old.seen)
+found_same old new (Call.lookup session) (Some (Reply.found (found.At slot address binding))) f =
+    (ap (λ (v : Knowledge). v.spent) f.0, ap (λ (v : Knowledge). v.number) f.0, ap (λ (v : Knowledge). v.ended) f.0, ap (λ (v : Knowledge). v.seen) f.0)
 found_same old new call reply f = absurd f
 
 answers_same : (hub : SharedHub) (old new : Knowledge) (call : Call) (at : ℕ) (reply : Option Reply) → AnswersAt hub old call at reply new →
@@ -63,9 +73,7 @@ answers_same : (hub : SharedHub) (old new : Knowledge) (call : Call) (at : ℕ) 
 answers_same hub old new call at None (inl s) = serves_same hub old new call at None s
 answers_same hub old new call at None (inr l) = (ap (λ v. v.spent) l.1.turn.goes, ap (λ v. v.number) l.1.turn.goes, ap (λ v. v.ended) l.1.turn.goes)
 answers_same hub old new call at (Some reply) (inl s) = serves_same hub old new call at (Some reply) s
-answers_same hub old new call at (Some reply) (inr f) =
-    let same = found_same old new call (Some reply) f in
-    (ap (λ (v : Knowledge). v.spent) same, ap (λ (v : Knowledge). v.number) same, ap (λ (v : Knowledge). v.ended) same)
+answers_same hub old new call at (Some reply) (inr f) = let same = found_same old new call (Some reply) f in (same.0, same.1, same.2)
 
 pub answered_spent : (hub : SharedHub) (old new : Knowledge) (steps : List Step) → Answered hub old steps new → new.spent ≡ old.spent + spent_looks steps
 unfolding Answered
@@ -106,7 +114,7 @@ answers_seen : (hub : SharedHub) (old new : Knowledge) (call : Call) (at : ℕ) 
 answers_seen hub old new call at None (inl s) = turn_seen old s.point s.made new s.turn
 answers_seen hub old new call at None (inr l) = turn_seen old l.1.point [] new l.1.turn
 answers_seen hub old new call at (Some reply) (inl s) = turn_seen old s.point s.made new s.turn
-answers_seen hub old new call at (Some reply) (inr f) = ([], append-nil old.seen ∙ sym (ap (λ (v : Knowledge). v.seen) (found_same old new call (Some reply) f)))
+answers_seen hub old new call at (Some reply) (inr f) = ([], append-nil old.seen ∙ sym (found_same old new call (Some reply) f).3)
 
 prefix_on : (xs ys zs : List Entry) → IsPrefix xs ys → IsPrefix ys zs → IsPrefix xs zs
 prefix_on xs ys zs p q = (p.0 ++ q.0, sym (append_assoc xs p.0 q.0) ∙ (ap (λ (l : List Entry). l ++ q.0) p.1 ∙ q.1))
@@ -122,74 +130,69 @@ answered_seen hub old new (Exchanged address ask came ∷ steps) a = answered_se
 answered_seen hub old new (Paused ms ∷ steps) a = answered_seen hub old new steps a
 
 -- a pause of the clock
-pub record PausesFor (ms m m' : ℕ) (pauses pauses' : Option Pauses) : Type 0 where
-  pub long_enough : later_by m ms ≤ m'
-  pub told : IfSome pauses (λ p. (pauses' ≡ Some (paused ms p)) × (m' ≡ later_by m ms))
+pub record PausesFor {C : Type 0} (tells : C → Tick → ℕ → C → Type 0) (ms : ℕ) (m m' : C) (time time' : ClockView) : Type 0 where
+  pub at : ℕ
+  pub gave : tells m (to_wait ms) at m'
+  pub long_enough : later_by time.moment ms ≤ time'.moment
+  pub told : IfSome time.pauses (λ p. (time'.pauses ≡ Some (paused ms p)) × (time'.moment ≡ later_by time.moment ms))
 
-module _ {N : Type 0} (hub : SharedHub) (gives : N → List ℕ → Ask → Came → N → Type 0) where
+module _ {N C : Type 0} (hub : SharedHub) (gives : N → List ℕ → Ask → Came → N → Type 0) (tells : C → Tick → ℕ → C → Type 0) where
   -- one call of the hub
-  pub went_call : (v w : Knowledge) (n : N) (call : Call) (at : ℕ) (reply : Option Reply) (m m' : ℕ) (pauses pauses' : Option Pauses) →
-      AnswersAt hub v call at reply w → Ticks m at m' pauses pauses' →
-      Went hub gives (world_of v n m pauses) (Called call at reply ∷ []) (world_of w n m' pauses')
-  unfolding Answered Exchanges Timed Still pauses_after
-  went_call v w n call at reply m m' pauses pauses' serves ticks = record {
+  pub went_call : (v w : Knowledge) (n : N) (call : Call) (at : ℕ) (reply : Option Reply) (m m' : C) (time time' : ClockView) →
+      AnswersAt hub v call at reply w → Ticks tells m at m' time time' →
+      Went hub gives tells (world_of v n m time) (Called call at reply ∷ []) (world_of w n m' time')
+  unfolding Answered Exchanges Clocked Timed Still pauses_after
+  went_call v w n call at reply m m' time time' serves ticks = record {
     answered = (w, serves, refl);
     asked = refl;
-    timed = (ticks.later, ticks.before);
-    told = ticks.told;
+    clocked = (m', ticks.gave, refl);
+    keeps_time = record { timed = (ticks.later, ticks.before); told = ticks.told };
   }
 
   -- one that found it spent
-  pub went_spent : (v w : Knowledge) (n : N) (call : Call) (at : ℕ) (s : spent.Spent) (m m' : ℕ) (pauses pauses' : Option Pauses) →
-      IsSpent hub v s w → Ticks m at m' pauses pauses' →
-      Went hub gives (world_of v n m pauses) (Spent call at ∷ []) (world_of w n m' pauses')
-  unfolding Answered Exchanges Timed Still pauses_after
-  went_spent v w n call at s m m' pauses pauses' is ticks = record {
+  pub went_spent : (v w : Knowledge) (n : N) (call : Call) (at : ℕ) (s : spent.Spent) (m m' : C) (time time' : ClockView) →
+      IsSpent hub v s w → Ticks tells m at m' time time' →
+      Went hub gives tells (world_of v n m time) (Spent call at ∷ []) (world_of w n m' time')
+  unfolding Answered Exchanges Clocked Timed Still pauses_after
+  went_spent v w n call at s m m' time time' is ticks = record {
     answered = (w, s, is, refl);
     asked = refl;
-    timed = (ticks.later, ticks.before);
-    told = ticks.told;
+    clocked = (m', ticks.gave, refl);
+    keeps_time = record { timed = (ticks.later, ticks.before); told = ticks.told };
   }
 
   -- one exchange
-  pub went_exchange : (v : Knowledge) (n n' : N) (address : List ℕ) (ask : Ask) (came : Came) (m : ℕ) (pauses : Option Pauses) →
+  pub went_exchange : (v : Knowledge) (n n' : N) (address : List ℕ) (ask : Ask) (came : Came) (m : C) (time : ClockView) →
       gives n address ask came n' →
-      Went hub gives (world_of v n m pauses) (Exchanged address ask came ∷ []) (world_of v n' m pauses)
-  unfolding Answered Exchanges Timed Still pauses_after
-  went_exchange v n n' address ask came m pauses gave = record {
+      Went hub gives tells (world_of v n m time) (Exchanged address ask came ∷ []) (world_of v n' m time)
+  unfolding Answered Exchanges Clocked Timed Still pauses_after
+  went_exchange v n n' address ask came m time gave =
+      let none = keeps_time_none time in
+      record {
+        answered = refl;
+        asked = (n', gave, refl);
+        clocked = refl;
+        keeps_time = record { timed = none.timed; told = none.told };
+      }
+
+  pub went_pause : (v : Knowledge) (n : N) (ms : ℕ) (m m' : C) (time time' : ClockView) → PausesFor tells ms m m' time time' →
+      Went hub gives tells (world_of v n m time) (Paused ms ∷ []) (world_of v n m' time')
+  unfolding Answered Exchanges Clocked Timed Still pauses_after
+  went_pause v n ms m m' time time' p = record {
     answered = refl;
-    asked = (n', gave, refl);
-    timed = omega arith;
-    told = told_none pauses m;
+    asked = refl;
+    clocked = (p.at, m', p.gave, refl);
+    keeps_time = record { timed = (time'.moment, p.long_enough, omega arith); told = p.told };
   }
 
-  pub went_pause : (v : Knowledge) (n : N) (ms m m' : ℕ) (pauses pauses' : Option Pauses) → PausesFor ms m m' pauses pauses' →
-      Went hub gives (world_of v n m pauses) (Paused ms ∷ []) (world_of v n m' pauses')
-  unfolding Answered Exchanges Timed Still pauses_after
-  went_pause v n ms m m' pauses pauses' p = record { answered = refl; asked = refl; timed = (m', p.long_enough, omega arith); told = p.told }
+  pub went_none : (w : World N C) → Went hub gives tells w [] w
+  unfolding Answered Exchanges Clocked
+  went_none w = record { answered = refl; asked = refl; clocked = refl; keeps_time = keeps_time_none w.time }
 
-  pub went_none : (w : World N) → Went hub gives w [] w
-  unfolding Answered Exchanges Timed Still pauses_after
-  went_none w = record { answered = refl; asked = refl; timed = omega arith; told = by_pauses w.pauses refl }
-    where
-      by_pauses : (o : Option Pauses) → w.pauses ≡ o → IfSome o (λ p. (w.pauses ≡ Some p) × (w.moment ≡ w.moment))
-      by_pauses None e = tt
-      by_pauses (Some p) e = (e, refl)
-
-  pub went_more : (u v w : World N) (steps more : List Step) → Went hub gives u steps v → Went hub gives v more w → Went hub gives u (steps ++ more) w
+  pub went_more : (u v w : World N C) (steps more : List Step) → Went hub gives tells u steps v → Went hub gives tells v more w → Went hub gives tells u (steps ++ more) w
   went_more u v w steps more p q = record {
     answered = answered_more hub u.view v.view w.view steps more p.answered q.answered;
     asked = exchanges_more gives u.nodes v.nodes w.nodes steps more p.asked q.asked;
-    timed = timed_more u.moment v.moment w.moment steps more p.timed q.timed;
-    told = by_pauses u.pauses p.told;
+    clocked = clocked_more tells u.clock v.clock w.clock steps more p.clocked q.clocked;
+    keeps_time = keeps_time_more u.time v.time w.time steps more p.keeps_time q.keeps_time;
   }
-    where
-      by_pauses : (o : Option Pauses) → IfSome o (λ pauses. (v.pauses ≡ Some (pauses_after pauses steps)) × Still u.moment steps v.moment) →
-          IfSome o (λ pauses. (w.pauses ≡ Some (pauses_after pauses (steps ++ more))) × Still u.moment (steps ++ more) w.moment)
-      by_pauses None h = tt
-      by_pauses (Some pauses) h =
-          let next : IfSome (Some (pauses_after pauses steps)) (λ t. (w.pauses ≡ Some (pauses_after t more)) × Still v.moment more w.moment) =
-          subst (λ (o : Option Pauses). IfSome o (λ t. (w.pauses ≡ Some (pauses_after t more)) × Still v.moment more w.moment)) h.0 q.told in (
-            next.0 ∙ ap Some (sym (pauses_more pauses steps more)),
-            still_more u.moment v.moment w.moment steps more h.1 next.1,
-          )

@@ -1,9 +1,10 @@
 //! A start, carried to its end on the shared hub.
-ghost use Rattle.std.specs.Prelude.{◌≡◌, ◌<◌, ◌+◌, ℕ, true, IfNone};
+ghost use Rattle.std.specs.Prelude.{◌≡◌, ◌<◌, ◌+◌, ℕ, true, IfErr, IfNone, IfSome};
 ghost use Rattle.hub_cell.specs.Passes.{IsOf, knows};
 ghost use Rattle.node_client.specs.Places.{at_start};
 ghost use Rattle.node_client.specs.Carrying.{is_fresh, work};
 ghost use Rattle.hub_workers.specs.Carried.{Carried, HasAt, IsUnder, Turned};
+ghost use Rattle.hub_workers.specs.Turns.{IsLastTicket};
 ghost use Rattle.hub_workers.specs.World.{world_of};
 
 use grid_outside::{Clock, NodeLink};
@@ -28,9 +29,10 @@ fn turn<R: Wait, N: NodeLink, C: Clock>(
     requires fresh { is_fresh carry.old ≡ true }
     requires under { IsUnder carry.old (knows pass.old) }
     ensures own { IsOf hub.now pass.new }
-    ensures turned { Turned hub.now N.gives
-        carry.old (world_of (knows pass.old) nodes.old (C.moment clock.old) (C.pauses clock.old))
-        result carry.new (world_of (knows pass.new) nodes.new (C.moment clock.new) (C.pauses clock.new)) }
+    ensures turned { Turned hub.now N.gives C.gives
+        carry.old (world_of (knows pass.old) nodes.old clock.old (C.view clock.old))
+        result carry.new (world_of (knows pass.new) nodes.new clock.new (C.view clock.new)) }
+    ensures told { IfSome result (λ end. IfErr end (IsLastTicket hub.now)) }
     ensures fresh { IfNone result (is_fresh carry.new ≡ true) }
     ensures less { IfNone result (work carry.new < work carry.old) }
 {
@@ -90,9 +92,10 @@ pub fn carry_out<R: Wait, N: NodeLink, C: Clock>(
     requires own { IsOf hub.now pass.old }
     requires has { HasAt (knows pass.old) reservation at_start }
     ensures own { IsOf hub.now pass.new }
-    ensures carried { Carried hub.now N.gives reservation
-        (world_of (knows pass.old) nodes.old (C.moment clock.old) (C.pauses clock.old)) result
-        (world_of (knows pass.new) nodes.new (C.moment clock.new) (C.pauses clock.new)) }
+    ensures told { IfErr result (IsLastTicket hub.now) }
+    ensures carried { Carried hub.now N.gives C.gives reservation
+        (world_of (knows pass.old) nodes.old clock.old (C.view clock.old)) result
+        (world_of (knows pass.new) nodes.new clock.new (C.view clock.new)) }
 {
     let mut carry = Carry::new(alloc, reservation);
     'turns: loop {

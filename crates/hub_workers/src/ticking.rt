@@ -1,9 +1,9 @@
 //! Tickers, which let go what is over by its time.
-ghost use Rattle.std.specs.Prelude.{◌≡◌, ◌≢◌, ℕ, not};
+ghost use Rattle.std.specs.Prelude.{◌≡◌, ◌≢◌, ℕ, not, IfSome};
 ghost use Rattle.hub_cell.specs.Passes.{IsOf, knows};
 ghost use Rattle.hub_cell.specs.Shared.{HasClosing};
 ghost use Rattle.node_client.specs.Steps.{lacked};
-ghost use Rattle.hub_workers.specs.Turns.{AfterSweep, AfterSweepSpent, AsksOnce, Finishes, Looked, LookedAll, OneTurn, TickerSpent, TickerTurn, WentBy, Worked, spent_after};
+ghost use Rattle.hub_workers.specs.Turns.{AfterSweep, AfterSweepSpent, AsksOnce, Finishes, IsLastTicket, LookTellsLast, Looked, LookedAll, OneTurn, TellsLast, TickerSpent, TickerTurn, WentBy, Worked, spent_after};
 ghost use Rattle.hub_workers.specs.World.{world_of};
 
 use crate::ends::WorkerEnd;
@@ -66,9 +66,10 @@ fn finish<R: Wait, N: NodeLink, C: Clock>(
     requires own { IsOf hub.now pass.old }
     requires has { HasClosing (knows pass.old) closing }
     ensures own { IsOf hub.now pass.new }
-    ensures finishes { WentBy hub.now N.gives (Finishes closing result)
-        (world_of (knows pass.old) nodes.old (C.moment clock.old) (C.pauses clock.old))
-        (world_of (knows pass.new) nodes.new (C.moment clock.new) (C.pauses clock.new)) }
+    ensures told { LookTellsLast hub.now result }
+    ensures finishes { WentBy hub.now N.gives C.gives (Finishes closing result)
+        (world_of (knows pass.old) nodes.old clock.old (C.view clock.old))
+        (world_of (knows pass.new) nodes.new clock.new (C.view clock.new)) }
 {
     let sent = ask_to_end(alloc, &closing, nodes);
     let _now = clock.now();
@@ -90,9 +91,10 @@ fn end_idle<R: Wait, N: NodeLink, C: Clock>(
 ) -> Idle
     requires { IsOf hub.now pass.old }
     ensures own { IsOf hub.now pass.new }
-    ensures looked { WentBy hub.now N.gives (Looked result)
-        (world_of (knows pass.old) nodes.old (C.moment clock.old) (C.pauses clock.old))
-        (world_of (knows pass.new) nodes.new (C.moment clock.new) (C.pauses clock.new)) }
+    ensures told { LookTellsLast hub.now result }
+    ensures looked { WentBy hub.now N.gives C.gives (Looked result)
+        (world_of (knows pass.old) nodes.old clock.old (C.view clock.old))
+        (world_of (knows pass.new) nodes.new clock.new (C.view clock.new)) }
 {
     let at = clock.now();
     match hub.expire(rt, pass, at) {
@@ -115,9 +117,10 @@ fn end_all_idle<R: Wait, N: NodeLink, C: Clock>(
     requires { IsOf hub.now pass.old }
     ensures own { IsOf hub.now pass.new }
     ensures last { result ≢ Idle.Ended }
-    ensures looked { WentBy hub.now N.gives (LookedAll result)
-        (world_of (knows pass.old) nodes.old (C.moment clock.old) (C.pauses clock.old))
-        (world_of (knows pass.new) nodes.new (C.moment clock.new) (C.pauses clock.new)) }
+    ensures told { LookTellsLast hub.now result }
+    ensures looked { WentBy hub.now N.gives C.gives (LookedAll result)
+        (world_of (knows pass.old) nodes.old clock.old (C.view clock.old))
+        (world_of (knows pass.new) nodes.new clock.new (C.view clock.new)) }
 {
     for _ in rt.forever() {
         match end_idle(rt, alloc, hub, pass, nodes, clock) {
@@ -139,9 +142,10 @@ fn tick_once<R: Wait, N: NodeLink, C: Clock>(
 ) -> Option<Spent>
     requires { IsOf hub.now pass.old }
     ensures own { IsOf hub.now pass.new }
-    ensures turned { OneTurn hub.now N.gives TickerTurn TickerSpent
-        (world_of (knows pass.old) nodes.old (C.moment clock.old) (C.pauses clock.old)) result
-        (world_of (knows pass.new) nodes.new (C.moment clock.new) (C.pauses clock.new)) }
+    ensures told { IfSome result (IsLastTicket hub.now) }
+    ensures turned { OneTurn hub.now N.gives C.gives TickerTurn TickerSpent
+        (world_of (knows pass.old) nodes.old clock.old (C.view clock.old)) result
+        (world_of (knows pass.new) nodes.new clock.new (C.view clock.new)) }
 {
     let at = clock.now();
     match hub.sweep(rt, pass, at) {
@@ -162,9 +166,10 @@ fn end_then_pause<R: Wait, N: NodeLink, C: Clock>(
 ) -> Option<Spent>
     requires { IsOf hub.now pass.old }
     ensures own { IsOf hub.now pass.new }
-    ensures turned { OneTurn hub.now N.gives AfterSweep AfterSweepSpent
-        (world_of (knows pass.old) nodes.old (C.moment clock.old) (C.pauses clock.old)) result
-        (world_of (knows pass.new) nodes.new (C.moment clock.new) (C.pauses clock.new)) }
+    ensures told { IfSome result (IsLastTicket hub.now) }
+    ensures turned { OneTurn hub.now N.gives C.gives AfterSweep AfterSweepSpent
+        (world_of (knows pass.old) nodes.old clock.old (C.view clock.old)) result
+        (world_of (knows pass.new) nodes.new clock.new (C.view clock.new)) }
 {
     match end_all_idle(rt, alloc, hub, pass, nodes, clock) {
         Idle::Over => {
@@ -190,9 +195,10 @@ pub fn ticker<R: Wait, N: NodeLink, C: Clock>(
 ) -> WorkerEnd
     requires { IsOf hub.now pass.old }
     ensures own { IsOf hub.now pass.new }
-    ensures worked { Worked hub.now N.gives TickerTurn TickerSpent turns
-        (world_of (knows pass.old) nodes.old (C.moment clock.old) (C.pauses clock.old)) result
-        (world_of (knows pass.new) nodes.new (C.moment clock.new) (C.pauses clock.new)) }
+    ensures worked { Worked hub.now N.gives C.gives TickerTurn TickerSpent turns
+        (world_of (knows pass.old) nodes.old clock.old (C.view clock.old)) result
+        (world_of (knows pass.new) nodes.new clock.new (C.view clock.new)) }
+    ensures told { TellsLast hub.now result }
     ensures spent { (knows pass.new).spent ≡ spent_after (knows pass.old).spent result }
 {
     for _ in 0..turns {

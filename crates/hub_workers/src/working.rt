@@ -1,7 +1,7 @@
 //! Workers, which start sessions for the requests whose turn it is.
-ghost use Rattle.std.specs.Prelude.{◌≡◌, ℕ};
+ghost use Rattle.std.specs.Prelude.{◌≡◌, ℕ, IfSome};
 ghost use Rattle.hub_cell.specs.Passes.{IsOf, knows};
-ghost use Rattle.hub_workers.specs.Turns.{OneTurn, Worked, WorkerSpent, WorkerTurn, spent_after};
+ghost use Rattle.hub_workers.specs.Turns.{IsLastTicket, OneTurn, TellsLast, Worked, WorkerSpent, WorkerTurn, spent_after};
 ghost use Rattle.hub_workers.specs.World.{world_of};
 
 use crate::ends::WorkerEnd;
@@ -27,9 +27,10 @@ fn work_once<R: Wait, N: NodeLink, C: Clock>(
 ) -> Option<Spent>
     requires { IsOf hub.now pass.old }
     ensures own { IsOf hub.now pass.new }
-    ensures turned { OneTurn hub.now N.gives WorkerTurn WorkerSpent
-        (world_of (knows pass.old) nodes.old (C.moment clock.old) (C.pauses clock.old)) result
-        (world_of (knows pass.new) nodes.new (C.moment clock.new) (C.pauses clock.new)) }
+    ensures told { IfSome result (IsLastTicket hub.now) }
+    ensures turned { OneTurn hub.now N.gives C.gives WorkerTurn WorkerSpent
+        (world_of (knows pass.old) nodes.old clock.old (C.view clock.old)) result
+        (world_of (knows pass.new) nodes.new clock.new (C.view clock.new)) }
 {
     let at = clock.now();
     match hub.dispatch(rt, pass, at) {
@@ -64,9 +65,10 @@ pub fn worker<R: Wait, N: NodeLink, C: Clock>(
 ) -> WorkerEnd
     requires { IsOf hub.now pass.old }
     ensures own { IsOf hub.now pass.new }
-    ensures worked { Worked hub.now N.gives WorkerTurn WorkerSpent turns
-        (world_of (knows pass.old) nodes.old (C.moment clock.old) (C.pauses clock.old)) result
-        (world_of (knows pass.new) nodes.new (C.moment clock.new) (C.pauses clock.new)) }
+    ensures worked { Worked hub.now N.gives C.gives WorkerTurn WorkerSpent turns
+        (world_of (knows pass.old) nodes.old clock.old (C.view clock.old)) result
+        (world_of (knows pass.new) nodes.new clock.new (C.view clock.new)) }
+    ensures told { TellsLast hub.now result }
     ensures spent { (knows pass.new).spent ≡ spent_after (knows pass.old).spent result }
 {
     for _ in 0..turns {

@@ -4,7 +4,7 @@ use Rattle.std.specs.Prelude.{Option, None, Some, Result, Ok, Err, OnOk, OnErr, 
 use Rattle.grid_types.specs.declared.entry.Entry.{Entry}
 use Rattle.grid_types.specs.Tokens.{Closing}
 use Rattle.grid_types.specs.Calls.{Call, Reply}
-use Rattle.grid_outside.specs.Told.{Pauses}
+use Rattle.grid_outside.specs.Told.{ClockView, Tick}
 use Rattle.grid_outside.specs.declared.exchange.Ask.{Ask}
 use Rattle.grid_outside.specs.declared.exchange.ExchangeFault.TheVariants as fault
 use Rattle.grid_outside.specs.Exchanges.{Came}
@@ -54,75 +54,76 @@ module _ {N : Type 0} (gives : N → List ℕ → Ask → Came → N → Type 0)
     (n', subst (λ (z : Ask). gives n c.address z came n') k (subst (λ (z : List ℕ). gives n z ask came n') a gave), refl),
   )
 
-  went_asks : (c : Closing) (sent : Bool) (h : HubView) (n n' : N) (m : ℕ) (pauses : Option Pauses) (steps : List Step) → AsksOrLacks c sent steps → Exchanges gives n steps n' →
-      Went gives (world_of h n m pauses) steps (world_of h n' m pauses)
+module _ {N C : Type 0} (gives : N → List ℕ → Ask → Came → N → Type 0) (tells : C → Tick → ℕ → C → Type 0) where
+  went_asks : (c : Closing) (sent : Bool) (h : HubView) (n n' : N) (m : C) (time : ClockView) (steps : List Step) → AsksOrLacks c sent steps → Exchanges gives n steps n' →
+      Went gives tells (world_of h n m time) steps (world_of h n' m time)
   unfolding Exchanges
-  went_asks c true h n n' m pauses _ (asked came some q) e =
-      subst (λ (k : N). Went gives (world_of h n m pauses) (Exchanged c.address (quit_ask c.session) came ∷ []) (world_of h k m pauses)) (sym e.2)
-      (went_exchange gives h n e.0 c.address (quit_ask c.session) came m pauses e.1)
-  went_asks c true h n n' m pauses _ (not_asked q) e =
-      subst (λ (k : N). Went gives (world_of h n m pauses) [] (world_of h k m pauses)) (sym e) (went_none gives (world_of h n m pauses))
-  went_asks c false h n n' m pauses steps x e = lacking (subst (λ (s : List Step). Exchanges gives n s n') x.1 e)
+  went_asks c true h n n' m time _ (asked came some q) e =
+      subst (λ (k : N). Went gives tells (world_of h n m time) (Exchanged c.address (quit_ask c.session) came ∷ []) (world_of h k m time)) (sym e.2)
+      (went_exchange gives tells h n e.0 c.address (quit_ask c.session) came m time e.1)
+  went_asks c true h n n' m time _ (not_asked q) e =
+      subst (λ (k : N). Went gives tells (world_of h n m time) [] (world_of h k m time)) (sym e) (went_none gives tells (world_of h n m time))
+  went_asks c false h n n' m time steps x e = lacking (subst (λ (s : List Step). Exchanges gives n s n') x.1 e)
     where
-      lacking : Exchanges gives n (Exchanged c.address (quit_ask c.session) (Err fault.Memory) ∷ []) n' → Went gives (world_of h n m pauses) steps (world_of h n' m pauses)
+      lacking : Exchanges gives n (Exchanged c.address (quit_ask c.session) (Err fault.Memory) ∷ []) n' → Went gives tells (world_of h n m time) steps (world_of h n' m time)
       lacking y =
-          subst (λ (s : List Step). Went gives (world_of h n m pauses) s (world_of h n' m pauses)) (sym x.1)
-          (subst (λ (k : N). Went gives (world_of h n m pauses) (Exchanged c.address (quit_ask c.session) (Err fault.Memory) ∷ []) (world_of h k m pauses)) (sym y.2)
-          (went_exchange gives h n y.0 c.address (quit_ask c.session) (Err fault.Memory) m pauses y.1))
+          subst (λ (s : List Step). Went gives tells (world_of h n m time) s (world_of h n' m time)) (sym x.1)
+          (subst (λ (k : N). Went gives tells (world_of h n m time) (Exchanged c.address (quit_ask c.session) (Err fault.Memory) ∷ []) (world_of h k m time)) (sym y.2)
+          (went_exchange gives tells h n y.0 c.address (quit_ask c.session) (Err fault.Memory) m time y.1))
 
-  pub finished_so : (c : Closing) (sent : Bool) (h k : HubView) (n n' : N) (at m m' : ℕ) (pauses pauses' : Option Pauses) →
-      AsksOnce gives c n sent n' → ServesLocally h (Call.freed c) at (Some Reply.is_freed) k → Ticks m at m' pauses pauses' →
-      WentBy gives (AsksAndFrees c sent) (world_of h n m pauses) (world_of k n' m' pauses')
-  finished_so c sent h k n n' at m m' pauses pauses' asks serves ticks = record {
+  pub finished_so : (c : Closing) (sent : Bool) (h k : HubView) (n n' : N) (at : ℕ) (m m' : C) (time time' : ClockView) →
+      AsksOnce gives c n sent n' → ServesLocally h (Call.freed c) at (Some Reply.is_freed) k → Ticks tells m at m' time time' →
+      WentBy gives tells (AsksAndFrees c sent) (world_of h n m time) (world_of k n' m' time')
+  finished_so c sent h k n n' at m m' time time' asks serves ticks = record {
     steps = asks.0 ++ Called (Call.freed c) at (Some Reply.is_freed) ∷ [];
     are = record { own = asks.0; at = at; asks = asks.1; steps_are = refl };
-    went = went_more gives (world_of h n m pauses) (world_of h n' m pauses) (world_of k n' m' pauses') asks.0 (Called (Call.freed c) at (Some Reply.is_freed) ∷ [])
-        (went_asks c sent h n n' m pauses asks.0 asks.1 asks.2)
-        (went_call gives h k n' (Call.freed c) at (Some Reply.is_freed) m m' pauses pauses' (serves_as h (Call.freed c) at (Some Reply.is_freed) k serves) ticks);
+    went = went_more gives tells (world_of h n m time) (world_of h n' m time) (world_of k n' m' time') asks.0 (Called (Call.freed c) at (Some Reply.is_freed) ∷ [])
+        (went_asks c sent h n n' m time asks.0 asks.1 asks.2)
+        (went_call gives tells h k n' (Call.freed c) at (Some Reply.is_freed) m m' time time' (serves_as h (Call.freed c) at (Some Reply.is_freed) k serves) ticks);
   }
 
   -- one look that found a session
-  pub looked_expired : (found : Idle) (sent : Bool) (h k : HubView) (n : N) (at m m' : ℕ) (pauses pauses' : Option Pauses) (c : Closing) (x : World N) →
-      found ≡ found_by sent → Serves h Call.expire at (Some (Reply.expired c)) k → Ticks m at m' pauses pauses' → WentBy gives (AsksAndFrees c sent) (world_of k n m' pauses') x →
-      WentBy gives (Looked found) (world_of h n m pauses) x
-  looked_expired found sent h k n at m m' pauses pauses' c x is serves ticks finishes = record {
+  pub looked_expired : (found : Idle) (sent : Bool) (h k : HubView) (n : N) (at : ℕ) (m m' : C) (time time' : ClockView) (c : Closing) (x : World N C) →
+      found ≡ found_by sent → Serves h Call.expire at (Some (Reply.expired c)) k → Ticks tells m at m' time time' → WentBy gives tells (AsksAndFrees c sent) (world_of k n m' time') x →
+      WentBy gives tells (Looked found) (world_of h n m time) x
+  looked_expired found sent h k n at m m' time time' c x is serves ticks finishes = record {
     steps = Called Call.expire at (Some (Reply.expired c)) ∷ finishes.steps;
     are = subst (λ (f : Idle). Looked f (Called Call.expire at (Some (Reply.expired c)) ∷ finishes.steps)) (sym is) (by_sent sent finishes.are);
-    went = went_more gives (world_of h n m pauses) (world_of k n m' pauses') x (Called Call.expire at (Some (Reply.expired c)) ∷ []) finishes.steps
-        (went_call gives h k n Call.expire at (Some (Reply.expired c)) m m' pauses pauses' serves ticks) finishes.went;
+    went = went_more gives tells (world_of h n m time) (world_of k n m' time') x (Called Call.expire at (Some (Reply.expired c)) ∷ []) finishes.steps
+        (went_call gives tells h k n Call.expire at (Some (Reply.expired c)) m m' time time' serves ticks) finishes.went;
   }
     where
       by_sent : (b : Bool) → AsksAndFrees c b finishes.steps → Looked (found_by b) (Called Call.expire at (Some (Reply.expired c)) ∷ finishes.steps)
       by_sent true f = record { at = at; c = c; own = finishes.steps; frees = f; steps_are = refl }
       by_sent false f = inr (record { at = at; c = c; own = finishes.steps; frees = f; steps_are = refl })
 
-  pub looked_over : (h k : HubView) (n : N) (at m m' : ℕ) (pauses pauses' : Option Pauses) → Serves h Call.expire at (Some Reply.nothing) k → Ticks m at m' pauses pauses' →
-      WentBy gives (Looked idle.Over) (world_of h n m pauses) (world_of k n m' pauses')
-  looked_over h k n at m m' pauses pauses' serves ticks = record {
+  pub looked_over : (h k : HubView) (n : N) (at : ℕ) (m m' : C) (time time' : ClockView) → Serves h Call.expire at (Some Reply.nothing) k → Ticks tells m at m' time time' →
+      WentBy gives tells (Looked idle.Over) (world_of h n m time) (world_of k n m' time')
+  looked_over h k n at m m' time time' serves ticks = record {
     steps = Called Call.expire at (Some Reply.nothing) ∷ [];
     are = (at, refl);
-    went = went_call gives h k n Call.expire at (Some Reply.nothing) m m' pauses pauses' serves ticks;
+    went = went_call gives tells h k n Call.expire at (Some Reply.nothing) m m' time time' serves ticks;
   }
 
-  pub looked_lacks : (h : HubView) (n : N) (at m m' : ℕ) (pauses pauses' : Option Pauses) → Ticks m at m' pauses pauses' →
-      WentBy gives (Looked idle.Lacks) (world_of h n m pauses) (world_of h n m' pauses')
-  looked_lacks h n at m m' pauses pauses' ticks = record {
+  pub looked_lacks : (h : HubView) (n : N) (at : ℕ) (m m' : C) (time time' : ClockView) → Ticks tells m at m' time time' →
+      WentBy gives tells (Looked idle.Lacks) (world_of h n m time) (world_of h n m' time')
+  looked_lacks h n at m m' time time' ticks = record {
     steps = Called Call.expire at None ∷ [];
     are = inl (at, refl);
-    went = went_call gives h h n Call.expire at None m m' pauses pauses' (serves_not h Call.expire at refl) ticks;
+    went = went_call gives tells h h n Call.expire at None m m' time time' (serves_not h Call.expire at refl) ticks;
   }
 
   -- ---- all sessions
 
-  pub all_none : (w : World N) → WentBy gives AllEnd w w
-  all_none w = record { steps = []; are = none_yet; went = went_none gives w }
+  pub all_none : (w : World N C) → WentBy gives tells AllEnd w w
+  all_none w = record { steps = []; are = none_yet; went = went_none gives tells w }
 
-  pub all_more : (u v w : World N) → WentBy gives AllEnd u v → WentBy gives (Looked idle.Ended) v w → WentBy gives AllEnd u w
-  all_more u v w p q = record { steps = p.steps ++ q.steps; are = one_more p.steps q.steps p.are q.are; went = went_more gives u v w p.steps q.steps p.went q.went }
+  pub all_more : (u v w : World N C) → WentBy gives tells AllEnd u v → WentBy gives tells (Looked idle.Ended) v w → WentBy gives tells AllEnd u w
+  all_more u v w p q = record { steps = p.steps ++ q.steps; are = one_more p.steps q.steps p.are q.are; went = went_more gives tells u v w p.steps q.steps p.went q.went }
 
-  pub all_then : (IsSo Then : List Step → Type 0) (u v w : World N) → ((done own : List Step) → AllEnd done → IsSo own → Then (done ++ own)) →
-      WentBy gives AllEnd u v → WentBy gives IsSo v w → WentBy gives Then u w
-  all_then IsSo Then u v w on p q = record { steps = p.steps ++ q.steps; are = on p.steps q.steps p.are q.are; went = went_more gives u v w p.steps q.steps p.went q.went }
+  pub all_then : (IsSo Then : List Step → Type 0) (u v w : World N C) → ((done own : List Step) → AllEnd done → IsSo own → Then (done ++ own)) →
+      WentBy gives tells AllEnd u v → WentBy gives tells IsSo v w → WentBy gives tells Then u w
+  all_then IsSo Then u v w on p q = record { steps = p.steps ++ q.steps; are = on p.steps q.steps p.are q.are; went = went_more gives tells u v w p.steps q.steps p.went q.went }
 
 -- one session and what follows it
 ends_then : (own more : List Step) → EndsIdle true own → Expires more → Expires (own ++ more)
@@ -176,76 +177,76 @@ lacks_after _ rest _ more (beats_one nodes steps node at reply x) y =
     (subst (λ (s : List Step). BeginLacks (nodes ++ (node ∷ rest)) s) (sym (append_assoc steps (Called (Call.beat node) at (Some reply) ∷ []) more))
     (lacks_after nodes (node ∷ rest) steps (Called (Call.beat node) at (Some reply) ∷ more) x (behind_beat node at reply y)))
 
-module _ {N : Type 0} (gives : N → List ℕ → Ask → Came → N → Type 0) where
-  pub beaten_none : (w : World N) → WentBy gives (Beaten []) w w
-  beaten_none w = record { steps = []; are = none_beaten; went = went_none gives w }
+module _ {N C : Type 0} (gives : N → List ℕ → Ask → Came → N → Type 0) (tells : C → Tick → ℕ → C → Type 0) where
+  pub beaten_none : (w : World N C) → WentBy gives tells (Beaten []) w w
+  beaten_none w = record { steps = []; are = none_beaten; went = went_none gives tells w }
 
-  beaten_more : (u : World N) (nodes : List ℕ) (node : ℕ) (h k : HubView) (n : N) (at m m' : ℕ) (reply : Reply) (pauses pauses' : Option Pauses) →
-      WentBy gives (Beaten nodes) u (world_of h n m pauses) → Serves h (Call.beat node) at (Some reply) k → Ticks m at m' pauses pauses' →
-      WentBy gives (Beaten (nodes ++ node ∷ [])) u (world_of k n m' pauses')
-  beaten_more u nodes node h k n at m m' reply pauses pauses' p serves ticks = record {
+  beaten_more : (u : World N C) (nodes : List ℕ) (node : ℕ) (h k : HubView) (n : N) (at : ℕ) (m m' : C) (reply : Reply) (time time' : ClockView) →
+      WentBy gives tells (Beaten nodes) u (world_of h n m time) → Serves h (Call.beat node) at (Some reply) k → Ticks tells m at m' time time' →
+      WentBy gives tells (Beaten (nodes ++ node ∷ [])) u (world_of k n m' time')
+  beaten_more u nodes node h k n at m m' reply time time' p serves ticks = record {
     steps = p.steps ++ Called (Call.beat node) at (Some reply) ∷ [];
     are = beats_one nodes p.steps node at reply p.are;
-    went = went_more gives u (world_of h n m pauses) (world_of k n m' pauses') p.steps (Called (Call.beat node) at (Some reply) ∷ []) p.went
-        (went_call gives h k n (Call.beat node) at (Some reply) m m' pauses pauses' serves ticks);
+    went = went_more gives tells u (world_of h n m time) (world_of k n m' time') p.steps (Called (Call.beat node) at (Some reply) ∷ []) p.went
+        (went_call gives tells h k n (Call.beat node) at (Some reply) m m' time time' serves ticks);
   }
 
-  beaten_lacks : (u : World N) (nodes rest : List ℕ) (node : ℕ) (h : HubView) (n : N) (at m m' : ℕ) (pauses pauses' : Option Pauses) →
-      WentBy gives (Beaten nodes) u (world_of h n m pauses) → Ticks m at m' pauses pauses' →
-      WentBy gives (BeginLacks (nodes ++ (node ∷ rest))) u (world_of h n m' pauses')
-  beaten_lacks u nodes rest node h n at m m' pauses pauses' p ticks = record {
+  beaten_lacks : (u : World N C) (nodes rest : List ℕ) (node : ℕ) (h : HubView) (n : N) (at : ℕ) (m m' : C) (time time' : ClockView) →
+      WentBy gives tells (Beaten nodes) u (world_of h n m time) → Ticks tells m at m' time time' →
+      WentBy gives tells (BeginLacks (nodes ++ (node ∷ rest))) u (world_of h n m' time')
+  beaten_lacks u nodes rest node h n at m m' time time' p ticks = record {
     steps = p.steps ++ Called (Call.beat node) at None ∷ [];
     are = lacks_after nodes (node ∷ rest) p.steps (Called (Call.beat node) at None ∷ []) p.are (beat_lacks node at);
-    went = went_more gives u (world_of h n m pauses) (world_of h n m' pauses') p.steps (Called (Call.beat node) at None ∷ []) p.went
-        (went_call gives h h n (Call.beat node) at None m m' pauses pauses' (serves_not h (Call.beat node) at refl) ticks);
+    went = went_more gives tells u (world_of h n m time) (world_of h n m' time') p.steps (Called (Call.beat node) at None ∷ []) p.went
+        (went_call gives tells h h n (Call.beat node) at None m m' time time' (serves_not h (Call.beat node) at refl) ticks);
   }
 
   -- ---- all of it
 
-  sweeps_then : (IsSo Then : List Step → Type 0) (h k : HubView) (n : N) (at m m' : ℕ) (reply : Reply) (pauses pauses' : Option Pauses) (x : World N) →
+  sweeps_then : (IsSo Then : List Step → Type 0) (h k : HubView) (n : N) (at : ℕ) (m m' : C) (reply : Reply) (time time' : ClockView) (x : World N C) →
       ((more : List Step) → IsSo more → Then (Called Call.sweep at (Some reply) ∷ more)) →
-      Serves h Call.sweep at (Some reply) k → Ticks m at m' pauses pauses' → WentBy gives IsSo (world_of k n m' pauses') x → WentBy gives Then (world_of h n m pauses) x
-  sweeps_then IsSo Then h k n at m m' reply pauses pauses' x on serves ticks q = record {
+      Serves h Call.sweep at (Some reply) k → Ticks tells m at m' time time' → WentBy gives tells IsSo (world_of k n m' time') x → WentBy gives tells Then (world_of h n m time) x
+  sweeps_then IsSo Then h k n at m m' reply time time' x on serves ticks q = record {
     steps = Called Call.sweep at (Some reply) ∷ q.steps;
     are = on q.steps q.are;
-    went = went_more gives (world_of h n m pauses) (world_of k n m' pauses') x (Called Call.sweep at (Some reply) ∷ []) q.steps
-        (went_call gives h k n Call.sweep at (Some reply) m m' pauses pauses' serves ticks) q.went;
+    went = went_more gives tells (world_of h n m time) (world_of k n m' time') x (Called Call.sweep at (Some reply) ∷ []) q.steps
+        (went_call gives tells h k n Call.sweep at (Some reply) m m' time time' serves ticks) q.went;
   }
 
-  pub sweeps_all : (ended : Bool) (h k : HubView) (n : N) (at m m' : ℕ) (reply : Reply) (pauses pauses' : Option Pauses) (x : World N) → ended ≡ true →
-      Serves h Call.sweep at (Some reply) k → Ticks m at m' pauses pauses' → WentBy gives (ExpiresOrLacks ended) (world_of k n m' pauses') x →
-      WentBy gives (Begins []) (world_of h n m pauses) x
-  sweeps_all ended h k n at m m' reply pauses pauses' x is serves ticks q =
-      sweeps_then Expires (Begins []) h k n at m m' reply pauses pauses' x (λ more y. swept at reply y) serves ticks
-      (subst (λ (b : Bool). WentBy gives (ExpiresOrLacks b) (world_of k n m' pauses') x) is q)
+  pub sweeps_all : (ended : Bool) (h k : HubView) (n : N) (at : ℕ) (m m' : C) (reply : Reply) (time time' : ClockView) (x : World N C) → ended ≡ true →
+      Serves h Call.sweep at (Some reply) k → Ticks tells m at m' time time' → WentBy gives tells (ExpiresOrLacks ended) (world_of k n m' time') x →
+      WentBy gives tells (Begins []) (world_of h n m time) x
+  sweeps_all ended h k n at m m' reply time time' x is serves ticks q =
+      sweeps_then Expires (Begins []) h k n at m m' reply time time' x (λ more y. swept at reply y) serves ticks
+      (subst (λ (b : Bool). WentBy gives tells (ExpiresOrLacks b) (world_of k n m' time') x) is q)
 
-  pub sweeps_lack : (ended : Bool) (h k : HubView) (n : N) (at m m' : ℕ) (reply : Reply) (pauses pauses' : Option Pauses) (x : World N) → ended ≡ false →
-      Serves h Call.sweep at (Some reply) k → Ticks m at m' pauses pauses' → WentBy gives (ExpiresOrLacks ended) (world_of k n m' pauses') x →
-      WentBy gives (BeginLacks []) (world_of h n m pauses) x
-  sweeps_lack ended h k n at m m' reply pauses pauses' x is serves ticks q =
-      sweeps_then ExpireLacks (BeginLacks []) h k n at m m' reply pauses pauses' x (λ more y. behind_sweep at reply y) serves ticks
-      (subst (λ (b : Bool). WentBy gives (ExpiresOrLacks b) (world_of k n m' pauses') x) is q)
+  pub sweeps_lack : (ended : Bool) (h k : HubView) (n : N) (at : ℕ) (m m' : C) (reply : Reply) (time time' : ClockView) (x : World N C) → ended ≡ false →
+      Serves h Call.sweep at (Some reply) k → Ticks tells m at m' time time' → WentBy gives tells (ExpiresOrLacks ended) (world_of k n m' time') x →
+      WentBy gives tells (BeginLacks []) (world_of h n m time) x
+  sweeps_lack ended h k n at m m' reply time time' x is serves ticks q =
+      sweeps_then ExpireLacks (BeginLacks []) h k n at m m' reply time time' x (λ more y. behind_sweep at reply y) serves ticks
+      (subst (λ (b : Bool). WentBy gives tells (ExpiresOrLacks b) (world_of k n m' time') x) is q)
 
-  pub sweep_not : (h : HubView) (n : N) (at m m' : ℕ) (pauses pauses' : Option Pauses) → Ticks m at m' pauses pauses' →
-      WentBy gives (BeginLacks []) (world_of h n m pauses) (world_of h n m' pauses')
-  sweep_not h n at m m' pauses pauses' ticks = record {
+  pub sweep_not : (h : HubView) (n : N) (at : ℕ) (m m' : C) (time time' : ClockView) → Ticks tells m at m' time time' →
+      WentBy gives tells (BeginLacks []) (world_of h n m time) (world_of h n m' time')
+  sweep_not h n at m m' time time' ticks = record {
     steps = Called Call.sweep at None ∷ [];
     are = sweep_lacks at;
-    went = went_call gives h h n Call.sweep at None m m' pauses pauses' (serves_not h Call.sweep at refl) ticks;
+    went = went_call gives tells h h n Call.sweep at None m m' time time' (serves_not h Call.sweep at refl) ticks;
   }
 
-  begins_all : (own : List ℕ) (u v w : World N) → WentBy gives (Beaten own) u v → WentBy gives (Begins []) v w → WentBy gives (Begins own) u w
+  begins_all : (own : List ℕ) (u v w : World N C) → WentBy gives tells (Beaten own) u v → WentBy gives tells (Begins []) v w → WentBy gives tells (Begins own) u w
   begins_all own u v w p q = record {
     steps = p.steps ++ q.steps;
     are = subst (λ (ns : List ℕ). Begins ns (p.steps ++ q.steps)) (append-nil own) (begins_after own [] p.steps q.steps p.are q.are);
-    went = went_more gives u v w p.steps q.steps p.went q.went;
+    went = went_more gives tells u v w p.steps q.steps p.went q.went;
   }
 
-  lacks_all : (own : List ℕ) (u v w : World N) → WentBy gives (Beaten own) u v → WentBy gives (BeginLacks []) v w → WentBy gives (BeginLacks own) u w
+  lacks_all : (own : List ℕ) (u v w : World N C) → WentBy gives tells (Beaten own) u v → WentBy gives tells (BeginLacks []) v w → WentBy gives tells (BeginLacks own) u w
   lacks_all own u v w p q = record {
     steps = p.steps ++ q.steps;
     are = subst (λ (ns : List ℕ). BeginLacks ns (p.steps ++ q.steps)) (append-nil own) (lacks_after own [] p.steps q.steps p.are q.are);
-    went = went_more gives u v w p.steps q.steps p.went q.went;
+    went = went_more gives tells u v w p.steps q.steps p.went q.went;
   }
 
 -- the closing that a look gives is good
@@ -311,30 +312,30 @@ beat_replied : (b : Beating) (old : HubView) (node at : ℕ) (new : HubView) →
 beat_replied beating.Beaten old node at new x = (Reply.beaten, x)
 beat_replied beating.NoNode old node at new x = (Reply.no_node, x)
 
-module _ {N : Type 0} (gives : N → List ℕ → Ask → Came → N → Type 0) where
+module _ {N C : Type 0} (gives : N → List ℕ → Ask → Came → N → Type 0) (tells : C → Tick → ℕ → C → Type 0) where
   -- one more node gave its sign of life
-  pub beats_on : (own : List ℕ) (i d : ℕ) (b : Beating) (u : World N) (h roomed k : HubView) (n : N) (at m m' : ℕ) (pauses pauses' : Option Pauses) → i < length own →
-      WentBy gives (Beaten (take i own)) u (world_of h n m pauses) → roomed ≡ record h { room = true } → ServesLocally roomed (Call.beat (get_or own i d)) at (beating_reply b) k →
-      Ticks m at m' pauses pauses' → WentBy gives (Beaten (take (i + 1) own)) u (world_of k n m' pauses')
-  beats_on own i d b u h roomed k n at m m' pauses pauses' lt p made serves ticks =
+  pub beats_on : (own : List ℕ) (i d : ℕ) (b : Beating) (u : World N C) (h roomed k : HubView) (n : N) (at : ℕ) (m m' : C) (time time' : ClockView) → i < length own →
+      WentBy gives tells (Beaten (take i own)) u (world_of h n m time) → roomed ≡ record h { room = true } → ServesLocally roomed (Call.beat (get_or own i d)) at (beating_reply b) k →
+      Ticks tells m at m' time time' → WentBy gives tells (Beaten (take (i + 1) own)) u (world_of k n m' time')
+  beats_on own i d b u h roomed k n at m m' time time' lt p made serves ticks =
       let told = beat_replied b h (get_or own i d) at k (serves_roomed h roomed k (Call.beat (get_or own i d)) at (beating_reply b) made serves) in
-      subst (λ (ns : List ℕ). WentBy gives (Beaten ns) u (world_of k n m' pauses')) (sym (take_next own i d lt))
-      (beaten_more gives u (take i own) (get_or own i d) h k n at m m' told.0 pauses pauses' p told.1 ticks)
+      subst (λ (ns : List ℕ). WentBy gives tells (Beaten ns) u (world_of k n m' time')) (sym (take_next own i d lt))
+      (beaten_more gives tells u (take i own) (get_or own i d) h k n at m m' told.0 time time' p told.1 ticks)
 
   -- there was no room for one
-  pub beats_not : (own : List ℕ) (i : ℕ) (u : World N) (h roomed : HubView) (n : N) (at m m' : ℕ) (pauses pauses' : Option Pauses) → i < length own →
-      WentBy gives (Beaten (take i own)) u (world_of h n m pauses) → roomed ≡ h → Ticks m at m' pauses pauses' → WentBy gives (BeginLacks own) u (world_of roomed n m' pauses')
-  beats_not own i u h roomed n at m m' pauses pauses' lt p same ticks =
-      subst (λ (g : HubView). WentBy gives (BeginLacks own) u (world_of g n m' pauses')) (sym same)
-      (subst (λ (ns : List ℕ). WentBy gives (BeginLacks ns) u (world_of h n m' pauses')) (sym (split_at own i 0 lt))
-      (beaten_lacks gives u (take i own) (drop (suc i) own) (get_or own i 0) h n at m m' pauses pauses' p ticks))
+  pub beats_not : (own : List ℕ) (i : ℕ) (u : World N C) (h roomed : HubView) (n : N) (at : ℕ) (m m' : C) (time time' : ClockView) → i < length own →
+      WentBy gives tells (Beaten (take i own)) u (world_of h n m time) → roomed ≡ h → Ticks tells m at m' time time' → WentBy gives tells (BeginLacks own) u (world_of roomed n m' time')
+  beats_not own i u h roomed n at m m' time time' lt p same ticks =
+      subst (λ (g : HubView). WentBy gives tells (BeginLacks own) u (world_of g n m' time')) (sym same)
+      (subst (λ (ns : List ℕ). WentBy gives tells (BeginLacks ns) u (world_of h n m' time')) (sym (split_at own i 0 lt))
+      (beaten_lacks gives tells u (take i own) (drop (suc i) own) (get_or own i 0) h n at m m' time time' p ticks))
 
-  pub begins_then : (own : List ℕ) (i : ℕ) (u v w : World N) (r : Result (Unit {0}) NoMemory) → length own ≤ i → WentBy gives (Beaten (take i own)) u v →
-      OnOk r (WentBy gives (Begins []) v w) → OnOk r (WentBy gives (Begins own) u w)
+  pub begins_then : (own : List ℕ) (i : ℕ) (u v w : World N C) (r : Result (Unit {0}) NoMemory) → length own ≤ i → WentBy gives tells (Beaten (take i own)) u v →
+      OnOk r (WentBy gives tells (Begins []) v w) → OnOk r (WentBy gives tells (Begins own) u w)
   begins_then own i u v w r le p h =
-      ok_then r (λ q. begins_all gives own u v w (subst (λ (ns : List ℕ). WentBy gives (Beaten ns) u v) (take_whole own i le) p) q) h
+      ok_then r (λ q. begins_all gives tells own u v w (subst (λ (ns : List ℕ). WentBy gives tells (Beaten ns) u v) (take_whole own i le) p) q) h
 
-  pub lacks_then : (own : List ℕ) (i : ℕ) (u v w : World N) (r : Result (Unit {0}) NoMemory) → length own ≤ i → WentBy gives (Beaten (take i own)) u v →
-      OnErr r (WentBy gives (BeginLacks []) v w) → OnErr r (WentBy gives (BeginLacks own) u w)
+  pub lacks_then : (own : List ℕ) (i : ℕ) (u v w : World N C) (r : Result (Unit {0}) NoMemory) → length own ≤ i → WentBy gives tells (Beaten (take i own)) u v →
+      OnErr r (WentBy gives tells (BeginLacks []) v w) → OnErr r (WentBy gives tells (BeginLacks own) u w)
   lacks_then own i u v w r le p h =
-      err_then r (λ q. lacks_all gives own u v w (subst (λ (ns : List ℕ). WentBy gives (Beaten ns) u v) (take_whole own i le) p) q) h
+      err_then r (λ q. lacks_all gives tells own u v w (subst (λ (ns : List ℕ). WentBy gives tells (Beaten ns) u v) (take_whole own i le) p) q) h

@@ -10,8 +10,8 @@ use Rattle.grid_types.specs.Calls.{Call, Reply}
 use Rattle.grid_types.specs.HubAnswers.{after_call, hub}
 use Rattle.grid_types.specs.Tokens.{Ticket}
 use Rattle.grid_outside.specs.Told.{later_by}
-use Rattle.start_laws.specs.Laws.{CallsKeepNewest, DeadlinesAreMoments, IsEarly, PollsAreEarly, StartsRunOut, is_enqueue}
-use Rattle.start_laws.specs.Starts.{newest_request, registered_count, starts_left}
+use Rattle.request_laws.specs.Laws.{CallsKeepNewest, DeadlinesAreMoments, IsEarly, PollsAreEarly, StartsRunOut, is_enqueue}
+use Rattle.request_laws.specs.Starts.{newest_request, registered_count, starts_left}
 use Rattle.hub_core.specs.Answers.{may_lack}
 use Rattle.hub_core.specs.Replies.{binding_reply, failing_reply, polled_reply}
 use Rattle.hub_core.specs.declared.answers.Enqueued.{Enqueued}

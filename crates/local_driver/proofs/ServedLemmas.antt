@@ -3,8 +3,9 @@ use Rattle.std.proofs.Common.{◌≡◌, ◌≢◌, ℕ, ◌≤◌, Bool, true, 
 use Rattle.std.specs.Prelude.{Some, Result, Ok, Err, IfOk}
 use Rattle.grid_types.specs.declared.config.HubConfig.{HubConfig}
 use Rattle.grid_types.specs.declared.entry.Entry.{Entry}
+use Rattle.grid_types.specs.Legal.{legal}
 use Rattle.grid_types.specs.Calls.{Call}
-use Rattle.grid_outside.specs.Counts.{Rose}
+use Rattle.grid_outside.specs.Told.{LinkView, Tick}
 use Rattle.grid_outside.specs.declared.exchange.Ask.{Ask}
 use Rattle.grid_outside.specs.Exchanges.{Came}
 use Rattle.hub_core.specs.HubView.{past}
@@ -21,24 +22,25 @@ use Rattle.conn_script.specs.declared.wants.Served.{Served}
 use Rattle.hub_conn.specs.declared.talk.Talk.{Talk}
 use Rattle.hub_conn.specs.SpentLaws.{SpentAtEnd, SpentLaws, is_hub_spent}
 use Rattle.hub_conn.specs.Talk.{Cause, IsNew, end_cause, result_cause}
-use Rattle.hub_links.specs.Links.{LinkView, RoseFor}
+use Rattle.hub_links.specs.Links.{RoseFor}
 use Rattle.local_driver.specs.World.{Answered}
-use Rattle.local_driver.specs.Outside.{Outside}
-use Rattle.local_driver.specs.Serving.{HasAll, HasServed, Serving}
+use Rattle.local_driver.specs.Served.{Blames, EndsSo, HasServed, Outside, ServedLocally}
+use Rattle.local_driver.specs.Serving.{EndedSo, HasAll, Serving}
 use Rattle.local_driver.proofs.OnwardLemmas.{onward_none}
 
-pub told_read : (result : Result Served ConnFault) (l m : LinkView) → RoseFor (result_cause result) l m → result ≡ Err faults.Read → Rose l.read_faults m.read_faults
-told_read result l m rose e = subst (λ (r : Result Served ConnFault). RoseFor (result_cause r) l m) e rose
+ends_so : (end : End) (l m : LinkView) → RoseFor (end_cause end) l m → EndsSo end l m
+ends_so ends.Closed l m rose = rose
+ends_so (ends.Cut at) l m rose = rose
+ends_so ends.Asked l m rose = rose
+ends_so (ends.Refused why at) l m rose = rose
+ends_so ends.Limit l m rose = rose
+ends_so ends.HubSpent l m rose = rose
 
-pub told_write : (result : Result Served ConnFault) (l m : LinkView) → RoseFor (result_cause result) l m → result ≡ Err faults.Write → Rose l.write_faults m.write_faults
-told_write result l m rose e = subst (λ (r : Result Served ConnFault). RoseFor (result_cause r) l m) e rose
-
-pub told_memory : (result : Result Served ConnFault) (l m : LinkView) → RoseFor (result_cause result) l m → result ≡ Err faults.Memory → m.ends ≡ l.ends
-told_memory result l m rose e = subst (λ (r : Result Served ConnFault). RoseFor (result_cause r) l m) e rose
-
-pub told_end : (result : Result Served ConnFault) (l m : LinkView) → RoseFor (result_cause result) l m → IfOk result (λ served. RoseFor (end_cause served.end) l m)
-told_end (Ok served) l m rose = rose
-told_end (Err fault) l m rose = tt
+blames_so : (result : Result Served ConnFault) (l m : LinkView) → RoseFor (result_cause result) l m → Blames result l m
+blames_so (Ok served) l m rose = ends_so served.end l m rose
+blames_so (Err faults.Read) l m rose = rose
+blames_so (Err faults.Write) l m rose = rose
+blames_so (Err faults.Memory) l m rose = rose
 
 -- ---- this hub is never spent
 
@@ -54,15 +56,15 @@ never_last : (c : HubConfig) (G H : List Entry) (spent : Bool) (steps : List Ste
 never_last c G H false steps finds a e = cc
 never_last c G H true steps finds a e = not_answered c G H finds.before finds.call finds.at (subst (λ (s : List Step). Answered c G s H) finds.steps_are a)
 
-module _ {N : Type 0} (gives : N → List ℕ → Ask → Came → N → Type 0) (own : List ℕ) where
-  pub serving_start : (talk : Talk) (o : Outside N) → IsNew talk → Serving gives own o talk o
+module _ {N C : Type 0} (gives : N → List ℕ → Ask → Came → N → Type 0) (tells : C → Tick → ℕ → C → Type 0) (own : List ℕ) where
+  pub serving_start : (talk : Talk) (o : Outside N C) → IsNew talk → Serving gives tells own o talk o
   serving_start talk o new = record {
     want = to_read PIECE;
     bytes = [];
     steps = [];
     written = [];
     stands = new.stands (Some own);
-    onward = onward_none gives o;
+    onward = onward_none gives tells o;
     fresh = new.fresh;
     has = subst (λ (ts : List Token). HasAll (past o.world.hub) ts) (sym new.no_tokens) tt;
     early = λ e. absurd (never e);
@@ -76,10 +78,19 @@ module _ {N : Type 0} (gives : N → List ℕ → Ask → Came → N → Type 0)
       within : 0 ≤ LIMIT
       within = omega arith
 
-  pub told_unspent : (result : Result Served ConnFault) (o p : Outside N) → SpentLaws → HasServed gives own o result p → IfOk result (λ served. served.end ≢ ends.HubSpent)
+  told_unspent : (result : Result Served ConnFault) (o p : Outside N C) → SpentLaws → HasServed gives tells own o result p → IfOk result (λ served. served.end ≢ ends.HubSpent)
   told_unspent (Err fault) o p laws served = tt
   told_unspent (Ok done) o p laws served = by_law (laws (Some own) (Ok done) served.bytes served.steps served.written served.finished)
     where
       by_law : SpentAtEnd (Ok done) served.steps → done.end ≢ ends.HubSpent
       by_law x e = never_last o.world.hub.config (past o.world.hub) (past p.world.hub) x.spent served.steps x.finds served.onward.went.answered
           (x.told ∙ subst (λ (z : End). is_hub_spent z ≡ true) (sym e) refl)
+
+  pub served_locally : (result : Result Served ConnFault) (o p : Outside N C) → SpentLaws → legal p.world.hub.config (past p.world.hub) ≡ true →
+      EndedSo gives tells own o result p → ServedLocally gives tells own o result p
+  served_locally result o p laws is_legal ended = record {
+    served = ended.0;
+    is_legal = is_legal;
+    blames = blames_so result o.link p.link ended.1;
+    unspent = told_unspent result o p laws ended.0;
+  }

@@ -8,8 +8,8 @@ use Rattle.grid_types.specs.Legal.{legal}
 use Rattle.grid_types.specs.Calls.{Call, Reply}
 use Rattle.grid_types.specs.HubAnswers.{after_call, hub}
 use Rattle.grid_types.specs.Tokens.{Ticket, Reservation, is_good_reservation, is_good_ticket, ticket_of}
-use Rattle.start_laws.specs.Laws.{CallsKeepNewest, PollsAreEarly, StartsRunOut, is_enqueue}
-use Rattle.start_laws.specs.Starts.{newest_request}
+use Rattle.request_laws.specs.Laws.{CallsKeepNewest, PollsAreEarly, StartsRunOut, is_enqueue}
+use Rattle.request_laws.specs.Starts.{newest_request}
 use Rattle.hub_core.specs.HubView.{HubView, past}
 use Rattle.hub_core.specs.Replies.{enqueued_reply, polled_reply, binding_reply, ending_reply}
 use Rattle.hub_core.specs.declared.answers.Enqueued.{Enqueued}

@@ -4,13 +4,13 @@ use Rattle.std.specs.Prelude.{Option, None, Some, IfSome}
 use Rattle.grid_types.specs.declared.config.HubConfig.{HubConfig}
 use Rattle.grid_types.specs.declared.entry.Entry.{Entry}
 use Rattle.grid_types.specs.Calls.{Call, Reply}
-use Rattle.grid_outside.specs.Told.{Pauses, later_by, paused}
+use Rattle.grid_outside.specs.Told.{ClockView, Pauses, Tick, later_by, paused, to_tell, to_wait}
 use Rattle.grid_outside.specs.declared.exchange.Ask.{Ask}
 use Rattle.grid_outside.specs.Exchanges.{Came}
 use Rattle.hub_core.specs.Answers.{Answers}
 use Rattle.hub_core.specs.HubView.{HubView, past, ServesLocally}
-use Rattle.node_client.specs.Runs.{Exchanges, Still, Timed, pauses_after}
-use Rattle.node_client.specs.RunLaws.{exchanges_more, pauses_more, still_more, timed_more}
+use Rattle.node_client.specs.Runs.{Clocked, Exchanges, KeepsTime, Still, Timed, pauses_after}
+use Rattle.node_client.specs.RunLaws.{clocked_more, exchanges_more, keeps_time_more}
 use Rattle.node_client.specs.Steps.{Step, Called, Spent, Exchanged, Paused}
 use Rattle.local_driver.specs.World.{AnswersAt, Answered, World, Went, world_of, wants_room}
 
@@ -22,18 +22,38 @@ answered_more c F G H (Spent call at ∷ steps) more p q = absurd p
 answered_more c F G H (Exchanged address ask came ∷ steps) more p q = answered_more c F G H steps more p q
 answered_more c F G H (Paused ms ∷ steps) more p q = answered_more c F G H steps more p q
 
--- what the clock gave at a call that followed
-pub record Ticks (m at m' : ℕ) (pauses pauses' : Option Pauses) : Type 0 where
-  pub later : m ≤ at
-  pub before : at ≤ m'
-  pub told : IfSome pauses (λ p. (pauses' ≡ Some p) × ((at ≡ m) × (m' ≡ m)))
-
-pub ticked : (m at m' : ℕ) (pauses pauses' : Option Pauses) → at ≡ m' → m ≤ m' → IfSome pauses (λ p. (pauses' ≡ Some p) × (m' ≡ m)) → Ticks m at m' pauses pauses'
-ticked m at m' pauses pauses' is later still = record { later = omega (arith, is, later); before = omega (arith, is); told = by_pauses pauses still }
+-- a clock that was not asked kept time
+keeps_time_none : (time : ClockView) → KeepsTime time [] time
+unfolding Timed Still pauses_after
+keeps_time_none time = record { timed = omega arith; told = by_pauses time.pauses refl }
   where
-    by_pauses : (o : Option Pauses) → IfSome o (λ p. (pauses' ≡ Some p) × (m' ≡ m)) → IfSome o (λ p. (pauses' ≡ Some p) × ((at ≡ m) × (m' ≡ m)))
+    by_pauses : (o : Option Pauses) → time.pauses ≡ o → IfSome o (λ p. (time.pauses ≡ Some p) × (time.moment ≡ time.moment))
+    by_pauses None e = tt
+    by_pauses (Some p) e = (e, refl)
+
+-- what the clock gave at a call that followed
+pub record Ticks {C : Type 0} (tells : C → Tick → ℕ → C → Type 0) (m : C) (at : ℕ) (m' : C) (time time' : ClockView) : Type 0 where
+  pub gave : tells m to_tell at m'
+  pub later : time.moment ≤ at
+  pub before : at ≤ time'.moment
+  pub told : IfSome time.pauses (λ p. (time'.pauses ≡ Some p) × ((at ≡ time.moment) × (time'.moment ≡ time.moment)))
+
+pub ticked : {C : Type 0} (tells : C → Tick → ℕ → C → Type 0) (m : C) (at : ℕ) (m' : C) (time time' : ClockView) → tells m to_tell at m' →
+    at ≡ time'.moment → time.moment ≤ time'.moment → IfSome time.pauses (λ p. (time'.pauses ≡ Some p) × (time'.moment ≡ time.moment)) → Ticks tells m at m' time time'
+ticked tells m at m' time time' gave is later still =
+    record { gave = gave; later = omega (arith, is, later); before = omega (arith, is); told = by_pauses time.pauses still }
+  where
+    by_pauses : (o : Option Pauses) → IfSome o (λ p. (time'.pauses ≡ Some p) × (time'.moment ≡ time.moment)) →
+        IfSome o (λ p. (time'.pauses ≡ Some p) × ((at ≡ time.moment) × (time'.moment ≡ time.moment)))
     by_pauses None h = tt
     by_pauses (Some p) h = (h.0, (is ∙ h.1, h.1))
+
+-- a pause of the clock
+pub record PausesFor {C : Type 0} (tells : C → Tick → ℕ → C → Type 0) (ms : ℕ) (m m' : C) (time time' : ClockView) : Type 0 where
+  pub at : ℕ
+  pub gave : tells m (to_wait ms) at m'
+  pub long_enough : later_by time.moment ms ≤ time'.moment
+  pub told : IfSome time.pauses (λ p. (time'.pauses ≡ Some (paused ms p)) × (time'.moment ≡ later_by time.moment ms))
 
 -- how a call of the hub left it
 pub record Serves (old : HubView) (call : Call) (at : ℕ) (reply : Option Reply) (new : HubView) : Type 0 where
@@ -60,60 +80,49 @@ serves_roomed old roomed new call at reply is serves =
     serves_in : ServesLocally (record old { room = true }) call at reply new → Serves old call at reply new
     serves_in x = let y = serves_as (record old { room = true }) call at reply new x in record { config = y.config; answers = y.answers }
 
-module _ {N : Type 0} (gives : N → List ℕ → Ask → Came → N → Type 0) where
-  pub went_none : (w : World N) → Went gives w [] w
-  unfolding Answered Exchanges Timed Still pauses_after
-  went_none w = record { config = refl; answered = refl; asked = refl; timed = omega arith; told = by_pauses w.pauses refl }
-    where
-      by_pauses : (o : Option Pauses) → w.pauses ≡ o → IfSome o (λ p. (w.pauses ≡ Some p) × (w.moment ≡ w.moment))
-      by_pauses None e = tt
-      by_pauses (Some p) e = (e, refl)
+module _ {N C : Type 0} (gives : N → List ℕ → Ask → Came → N → Type 0) (tells : C → Tick → ℕ → C → Type 0) where
+  pub went_none : (w : World N C) → Went gives tells w [] w
+  unfolding Answered Exchanges Clocked
+  went_none w = record { config = refl; answered = refl; asked = refl; clocked = refl; keeps_time = keeps_time_none w.time }
 
-  pub went_more : (u v w : World N) (steps more : List Step) → Went gives u steps v → Went gives v more w → Went gives u (steps ++ more) w
+  pub went_more : (u v w : World N C) (steps more : List Step) → Went gives tells u steps v → Went gives tells v more w → Went gives tells u (steps ++ more) w
   went_more u v w steps more p q = record {
     config = q.config ∙ p.config;
     answered = answered_more u.hub.config (past u.hub) (past v.hub) (past w.hub) steps more p.answered
         (subst (λ (c : HubConfig). Answered c (past v.hub) more (past w.hub)) p.config q.answered);
     asked = exchanges_more gives u.nodes v.nodes w.nodes steps more p.asked q.asked;
-    timed = timed_more u.moment v.moment w.moment steps more p.timed q.timed;
-    told = by_pauses u.pauses p.told;
+    clocked = clocked_more tells u.clock v.clock w.clock steps more p.clocked q.clocked;
+    keeps_time = keeps_time_more u.time v.time w.time steps more p.keeps_time q.keeps_time;
   }
-    where
-      by_pauses : (o : Option Pauses) → IfSome o (λ pauses. (v.pauses ≡ Some (pauses_after pauses steps)) × Still u.moment steps v.moment) →
-          IfSome o (λ pauses. (w.pauses ≡ Some (pauses_after pauses (steps ++ more))) × Still u.moment (steps ++ more) w.moment)
-      by_pauses None h = tt
-      by_pauses (Some pauses) h =
-          let next : IfSome (Some (pauses_after pauses steps)) (λ t. (w.pauses ≡ Some (pauses_after t more)) × Still v.moment more w.moment) =
-          subst (λ (o : Option Pauses). IfSome o (λ t. (w.pauses ≡ Some (pauses_after t more)) × Still v.moment more w.moment)) h.0 q.told in (
-            next.0 ∙ ap Some (sym (pauses_more pauses steps more)),
-            still_more u.moment v.moment w.moment steps more h.1 next.1,
-          )
 
   -- one call of the hub
-  pub went_call : (h k : HubView) (n : N) (call : Call) (at : ℕ) (reply : Option Reply) (m m' : ℕ) (pauses pauses' : Option Pauses) →
-      Serves h call at reply k → Ticks m at m' pauses pauses' → Went gives (world_of h n m pauses) (Called call at reply ∷ []) (world_of k n m' pauses')
-  unfolding Answered Exchanges Timed Still pauses_after
-  went_call h k n call at reply m m' pauses pauses' serves ticks = record {
+  pub went_call : (h k : HubView) (n : N) (call : Call) (at : ℕ) (reply : Option Reply) (m m' : C) (time time' : ClockView) →
+      Serves h call at reply k → Ticks tells m at m' time time' → Went gives tells (world_of h n m time) (Called call at reply ∷ []) (world_of k n m' time')
+  unfolding Answered Exchanges Clocked Timed Still pauses_after
+  went_call h k n call at reply m m' time time' serves ticks = record {
     config = serves.config;
     answered = (past k, serves.answers, refl);
     asked = refl;
-    timed = (ticks.later, ticks.before);
-    told = ticks.told;
+    clocked = (m', ticks.gave, refl);
+    keeps_time = record { timed = (ticks.later, ticks.before); told = ticks.told };
   }
 
   -- one exchange
-  pub went_exchange : (h : HubView) (n n' : N) (address : List ℕ) (ask : Ask) (came : Came) (m : ℕ) (pauses : Option Pauses) →
-      gives n address ask came n' → Went gives (world_of h n m pauses) (Exchanged address ask came ∷ []) (world_of h n' m pauses)
-  unfolding Answered Exchanges Timed Still pauses_after
-  went_exchange h n n' address ask came m pauses gave =
-      record { config = refl; answered = refl; asked = (n', gave, refl); timed = omega arith; told = told_none pauses }
-    where
-      told_none : (o : Option Pauses) → IfSome o (λ p. (o ≡ Some p) × (m ≡ m))
-      told_none None = tt
-      told_none (Some p) = (refl, refl)
+  pub went_exchange : (h : HubView) (n n' : N) (address : List ℕ) (ask : Ask) (came : Came) (m : C) (time : ClockView) →
+      gives n address ask came n' → Went gives tells (world_of h n m time) (Exchanged address ask came ∷ []) (world_of h n' m time)
+  unfolding Answered Exchanges Clocked Timed Still pauses_after
+  went_exchange h n n' address ask came m time gave =
+      let none = keeps_time_none time in
+      record { config = refl; answered = refl; asked = (n', gave, refl); clocked = refl; keeps_time = record { timed = none.timed; told = none.told } }
 
   -- one pause
-  pub went_pause : (h : HubView) (n : N) (ms m m' : ℕ) (pauses pauses' : Option Pauses) → later_by m ms ≤ m' →
-      IfSome pauses (λ p. (pauses' ≡ Some (paused ms p)) × (m' ≡ later_by m ms)) → Went gives (world_of h n m pauses) (Paused ms ∷ []) (world_of h n m' pauses')
-  unfolding Answered Exchanges Timed Still pauses_after
-  went_pause h n ms m m' pauses pauses' long told = record { config = refl; answered = refl; asked = refl; timed = (m', long, omega arith); told = told }
+  pub went_pause : (h : HubView) (n : N) (ms : ℕ) (m m' : C) (time time' : ClockView) → PausesFor tells ms m m' time time' →
+      Went gives tells (world_of h n m time) (Paused ms ∷ []) (world_of h n m' time')
+  unfolding Answered Exchanges Clocked Timed Still pauses_after
+  went_pause h n ms m m' time time' p = record {
+    config = refl;
+    answered = refl;
+    asked = refl;
+    clocked = (p.at, m', p.gave, refl);
+    keeps_time = record { timed = (time'.moment, p.long_enough, omega arith); told = p.told };
+  }

@@ -2,5 +2,5 @@ pub mod World
 pub mod Idles
 pub mod Beginning
 pub mod Calls
-pub mod Outside
+pub mod Served
 pub mod Serving

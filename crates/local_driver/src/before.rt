@@ -56,9 +56,9 @@ fn finish<N: NodeLink, C: Clock>(
     clock: &mut C,
 ) -> bool
     requires { MayCall (past hub.old) 0 (Call.freed closing) }
-    ensures finishes { WentBy N.gives (AsksAndFrees closing result)
-        (world_of hub.old nodes.old (C.moment clock.old) (C.pauses clock.old))
-        (world_of hub.new nodes.new (C.moment clock.new) (C.pauses clock.new)) }
+    ensures finishes { WentBy N.gives C.gives (AsksAndFrees closing result)
+        (world_of hub.old nodes.old clock.old (C.view clock.old))
+        (world_of hub.new nodes.new clock.new (C.view clock.new)) }
     ensures live { live_count (past hub.new) ≤ live_count (past hub.old) }
 {
     let sent = ask_to_end(alloc, &closing, nodes);
@@ -74,9 +74,9 @@ fn end_idle<N: NodeLink, C: Clock>(
     nodes: &mut N,
     clock: &mut C,
 ) -> Idle
-    ensures looked { WentBy N.gives (Looked result)
-        (world_of hub.old nodes.old (C.moment clock.old) (C.pauses clock.old))
-        (world_of hub.new nodes.new (C.moment clock.new) (C.pauses clock.new)) }
+    ensures looked { WentBy N.gives C.gives (Looked result)
+        (world_of hub.old nodes.old clock.old (C.view clock.old))
+        (world_of hub.new nodes.new clock.new (C.view clock.new)) }
     ensures ends { EndsOne result (past hub.old) (past hub.new) }
 {
     let at = clock.now();
@@ -102,9 +102,9 @@ fn end_all_idle<N: NodeLink, C: Clock>(
     nodes: &mut N,
     clock: &mut C,
 ) -> bool
-    ensures { WentBy N.gives (ExpiresOrLacks result)
-        (world_of hub.old nodes.old (C.moment clock.old) (C.pauses clock.old))
-        (world_of hub.new nodes.new (C.moment clock.new) (C.pauses clock.new)) }
+    ensures { WentBy N.gives C.gives (ExpiresOrLacks result)
+        (world_of hub.old nodes.old clock.old (C.view clock.old))
+        (world_of hub.new nodes.new clock.new (C.view clock.new)) }
 {
     'looks: loop {
         match end_idle(alloc, hub, nodes, clock) {
@@ -116,7 +116,7 @@ fn end_all_idle<N: NodeLink, C: Clock>(
 }
 
 /// Does what goes before a request in a program with nodes of its own: these give a sign of life, the hub sweeps, and idle
-/// sessions are ended. Err: out of memory.
+/// sessions are ended. The clock is asked for the moment of each call anew. Err: out of memory.
 pub fn begin<N: NodeLink, C: Clock>(
     alloc: Global,
     hub: &mut LocalHub,
@@ -124,12 +124,12 @@ pub fn begin<N: NodeLink, C: Clock>(
     nodes: &mut N,
     clock: &mut C,
 ) -> Result<(), NoMemory>
-    ensures begins { OnOk result (WentBy N.gives (Begins own.now)
-        (world_of hub.old nodes.old (C.moment clock.old) (C.pauses clock.old))
-        (world_of hub.new nodes.new (C.moment clock.new) (C.pauses clock.new))) }
-    ensures lacks { OnErr result (WentBy N.gives (BeginLacks own.now)
-        (world_of hub.old nodes.old (C.moment clock.old) (C.pauses clock.old))
-        (world_of hub.new nodes.new (C.moment clock.new) (C.pauses clock.new))) }
+    ensures begins { OnOk result (WentBy N.gives C.gives (Begins own.now)
+        (world_of hub.old nodes.old clock.old (C.view clock.old))
+        (world_of hub.new nodes.new clock.new (C.view clock.new))) }
+    ensures lacks { OnErr result (WentBy N.gives C.gives (BeginLacks own.now)
+        (world_of hub.old nodes.old clock.old (C.view clock.old))
+        (world_of hub.new nodes.new clock.new (C.view clock.new))) }
 {
     for node in own {
         let at = clock.now();
@@ -148,12 +148,12 @@ fn sweep_and_end<N: NodeLink, C: Clock>(
     nodes: &mut N,
     clock: &mut C,
 ) -> Result<(), NoMemory>
-    ensures begins { OnOk result (WentBy N.gives (Begins [])
-        (world_of hub.old nodes.old (C.moment clock.old) (C.pauses clock.old))
-        (world_of hub.new nodes.new (C.moment clock.new) (C.pauses clock.new))) }
-    ensures lacks { OnErr result (WentBy N.gives (BeginLacks [])
-        (world_of hub.old nodes.old (C.moment clock.old) (C.pauses clock.old))
-        (world_of hub.new nodes.new (C.moment clock.new) (C.pauses clock.new))) }
+    ensures begins { OnOk result (WentBy N.gives C.gives (Begins [])
+        (world_of hub.old nodes.old clock.old (C.view clock.old))
+        (world_of hub.new nodes.new clock.new (C.view clock.new))) }
+    ensures lacks { OnErr result (WentBy N.gives C.gives (BeginLacks [])
+        (world_of hub.old nodes.old clock.old (C.view clock.old))
+        (world_of hub.new nodes.new clock.new (C.view clock.new))) }
 {
     let at = clock.now();
     if hub.room().is_err() {

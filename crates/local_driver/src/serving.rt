@@ -1,19 +1,14 @@
 //! The driver: it asks the connection what it wants, does that, and hands in what came of it.
-ghost use Rattle.std.specs.Prelude.{◌≡◌, ◌≢◌, ℕ, ◌<◌, true, length, Err, IfOk};
+ghost use Rattle.std.specs.Prelude.{◌≡◌, ◌<◌, true, length};
 ghost use Rattle.grid_types.specs.Legal.{legal};
-ghost use Rattle.grid_outside.specs.Counts.{Rose};
-ghost use Rattle.start_laws.specs.Laws.{CallsKeepNewest, DeadlinesAreMoments, PollsAreEarly, StartsRunOut};
+ghost use Rattle.request_laws.specs.Laws.{CallsKeepNewest, DeadlinesAreMoments, PollsAreEarly, StartsRunOut};
 ghost use Rattle.hub_core.specs.HubView.{past};
-ghost use Rattle.conn_script.specs.declared.wants.ConnFault.{ConnFault};
-ghost use Rattle.conn_script.specs.declared.wants.End.TheVariants as ends;
 ghost use Rattle.hub_conn.specs.CallLaws.{CallLaws};
-ghost use Rattle.hub_conn.specs.Talk.{end_cause};
 ghost use Rattle.hub_conn.specs.WantLaws.{WantLaws};
 ghost use Rattle.hub_conn.specs.Work.{work};
-ghost use Rattle.hub_links.specs.Links.{RoseFor, link_of};
 ghost use Rattle.local_driver.specs.World.{world_of};
-ghost use Rattle.local_driver.specs.Outside.{Outside, outlook_of, outside_of};
-ghost use Rattle.local_driver.specs.Serving.{EndedSo, FallsTo, HasServed, Serving, Turned};
+ghost use Rattle.local_driver.specs.Served.{Outside, ServedLocally, outside_of};
+ghost use Rattle.local_driver.specs.Serving.{EndedSo, FallsTo, Serving, Turned, outlook_of};
 
 use crate::before::begin;
 use crate::calls::make;
@@ -25,7 +20,7 @@ use hub_conn::{
 };
 use hub_core::LocalHub;
 use hub_links::{read_piece, write_some};
-use start_laws::{calls_keep_the_newest_request, polls_are_early, starts_run_out};
+use request_laws::{calls_keep_the_newest_request, polls_are_early, starts_run_out};
 use std::alloc::Global;
 
 /// The history of a hub is legal.
@@ -63,18 +58,15 @@ fn turn<L: Link, N: NodeLink, C: Clock>(
     clock: &mut C,
 ) -> Option<Result<Served, ConnFault>>
     requires room { 0 < length buffer.old }
-    requires serving { (first : Outside N) × Serving N.gives own.now first talk.old
-        (outside_of (world_of hub.old nodes.old (C.moment clock.old) (C.pauses clock.old))
-        (link_of (L.given link.old) (L.taken link.old) (L.read_faults link.old) (L.write_faults link.old) (L.ends link.old))) }
-    ensures turned { Turned N.gives own.now talk.old
-        (outside_of (world_of hub.old nodes.old (C.moment clock.old) (C.pauses clock.old))
-        (link_of (L.given link.old) (L.taken link.old) (L.read_faults link.old) (L.write_faults link.old) (L.ends link.old)))
+    requires serving { (first : Outside N C) × Serving N.gives C.gives own.now first talk.old
+        (outside_of (world_of hub.old nodes.old clock.old (C.view clock.old)) (L.view link.old)) }
+    ensures turned { Turned N.gives C.gives own.now talk.old
+        (outside_of (world_of hub.old nodes.old clock.old (C.view clock.old)) (L.view link.old))
         result talk.new
-        (outside_of (world_of hub.new nodes.new (C.moment clock.new) (C.pauses clock.new))
-        (link_of (L.given link.new) (L.taken link.new) (L.read_faults link.new) (L.write_faults link.new) (L.ends link.new))) }
+        (outside_of (world_of hub.new nodes.new clock.new (C.view clock.new)) (L.view link.new)) }
     ensures less { FallsTo result
-        (work talk.old (outlook_of (world_of hub.old nodes.old (C.moment clock.old) (C.pauses clock.old))))
-        (work talk.new (outlook_of (world_of hub.new nodes.new (C.moment clock.new) (C.pauses clock.new)))) }
+        (work talk.old (outlook_of (world_of hub.old nodes.old clock.old (C.view clock.old))))
+        (work talk.new (outlook_of (world_of hub.new nodes.new clock.new (C.view clock.new)))) }
     ensures same { L.Same link.old link.new }
 {
     laws_hold();
@@ -128,12 +120,10 @@ fn serve_to_end<L: Link, N: NodeLink, C: Clock>(
     nodes: &mut N,
     clock: &mut C,
 ) -> Result<Served, ConnFault>
-    ensures ended { EndedSo N.gives own.now
-        (outside_of (world_of hub.old nodes.old (C.moment clock.old) (C.pauses clock.old))
-        (link_of (L.given link.old) (L.taken link.old) (L.read_faults link.old) (L.write_faults link.old) (L.ends link.old)))
+    ensures ended { EndedSo N.gives C.gives own.now
+        (outside_of (world_of hub.old nodes.old clock.old (C.view clock.old)) (L.view link.old))
         result
-        (outside_of (world_of hub.new nodes.new (C.moment clock.new) (C.pauses clock.new))
-        (link_of (L.given link.new) (L.taken link.new) (L.read_faults link.new) (L.write_faults link.new) (L.ends link.new))) }
+        (outside_of (world_of hub.new nodes.new clock.new (C.view clock.new)) (L.view link.new)) }
     ensures same { L.Same link.old link.new }
 {
     let mut talk = Talk::new(alloc);
@@ -151,7 +141,7 @@ fn serve_to_end<L: Link, N: NodeLink, C: Clock>(
 ///
 /// What was read, all calls of the hub, all that the nodes were asked, all pauses and what was written are one conversation. Its
 /// responses are those to its requests, in order, each by answers of the hub at points of its history, which gained just the entries of
-/// these calls.
+/// these calls. The moment of each call is one that the clock gave where it was asked behind the step before.
 ///
 /// It always ends, as far as the calls of the link, the nodes and the clock do. Err tells that a read or a write failed, or that memory
 /// was wanted where no response tells it: for bytes that no answered request holds, on a connection that neither a request nor the end of
@@ -164,20 +154,10 @@ pub fn serve_local<L: Link, N: NodeLink, C: Clock>(
     nodes: &mut N,
     clock: &mut C,
 ) -> Result<Served, ConnFault>
-    ensures served { HasServed N.gives own.now
-        (outside_of (world_of hub.old nodes.old (C.moment clock.old) (C.pauses clock.old))
-        (link_of (L.given link.old) (L.taken link.old) (L.read_faults link.old) (L.write_faults link.old) (L.ends link.old)))
+    ensures served { ServedLocally N.gives C.gives own.now
+        (outside_of (world_of hub.old nodes.old clock.old (C.view clock.old)) (L.view link.old))
         result
-        (outside_of (world_of hub.new nodes.new (C.moment clock.new) (C.pauses clock.new))
-        (link_of (L.given link.new) (L.taken link.new) (L.read_faults link.new) (L.write_faults link.new) (L.ends link.new))) }
-    ensures legal { legal hub.new.config (past hub.new) ≡ true }
-    ensures read { result ≡ Err ConnFault.Read → Rose (L.read_faults link.old) (L.read_faults link.new) }
-    ensures write { result ≡ Err ConnFault.Write → Rose (L.write_faults link.old) (L.write_faults link.new) }
-    ensures memory { result ≡ Err ConnFault.Memory → L.ends link.new ≡ L.ends link.old }
-    ensures ended { IfOk result (λ served. RoseFor (end_cause served.end)
-        (link_of (L.given link.old) (L.taken link.old) (L.read_faults link.old) (L.write_faults link.old) (L.ends link.old))
-        (link_of (L.given link.new) (L.taken link.new) (L.read_faults link.new) (L.write_faults link.new) (L.ends link.new))) }
-    ensures unspent { IfOk result (λ served. served.end ≢ ends.HubSpent) }
+        (outside_of (world_of hub.new nodes.new clock.new (C.view clock.new)) (L.view link.new)) }
     ensures same { L.Same link.old link.new }
 {
     let result = serve_to_end(alloc, hub, own, link, nodes, clock);

@@ -9,18 +9,19 @@ use Rattle.http_frames.specs.FrameSteps.{IsFrame}
 use Rattle.loop_node.specs.Sessions.{Node}
 use Rattle.loop_node.specs.Replies.{Answers}
 use Rattle.loop_node.specs.Serving.{plain_ask, ask_in, reply_bytes}
-use Rattle.loop_node.specs.Connections.{LinkTold, WroteFront, StopsAt, answered, unanswered}
+use Rattle.grid_outside.specs.Told.{LinkView}
+use Rattle.loop_node.specs.Connections.{WroteFront, StopsAt, answered, unanswered}
 use Rattle.loop_node.proofs.WritingLemmas.{moved_none}
 
 -- the node answered
-pub stops_behind : {T E : Type 0} (r : Result T E) (node new : Node) (frame : Frame) (reply : NodeReply) (before after : LinkTold) →
+pub stops_behind : {T E : Type 0} (r : Result T E) (node new : Node) (frame : Frame) (reply : NodeReply) (before after : LinkView) →
     ((h : RequestHead) (parts : List (List ℕ)) → IsFrame LIMITS h parts frame → Answers node (ask_in (h, parts)) reply new) → OnErr r (WroteFront before after (reply_bytes reply frame.closes)) →
     OnErr r ((h : RequestHead) (parts : List (List ℕ)) → IsFrame LIMITS h parts frame → StopsAt node new (h, parts) before after)
 stops_behind (Ok x) node new frame reply before after answers w = tt
 stops_behind (Err e) node new frame reply before after answers w = λ h parts f.
     answered reply (answers h parts f) (subst (λ (b : Bool). WroteFront before after (reply_bytes reply b)) f.head.closes w)
 
-pub stops_before : (node new : Node) (frame : Frame) (a : LinkTold) → new ≡ node → (h : RequestHead) (parts : List (List ℕ)) → IsFrame LIMITS h parts frame → StopsAt node new (h, parts) a a
+pub stops_before : (node new : Node) (frame : Frame) (a : LinkView) → new ≡ node → (h : RequestHead) (parts : List (List ℕ)) → IsFrame LIMITS h parts frame → StopsAt node new (h, parts) a a
 stops_before node new frame a same h parts f = unanswered same (moved_none a)
 
 -- the request in the frame, with its body joined

@@ -18,7 +18,8 @@ use Rattle.loop_node.specs.declared.incoming.TheConstants.{MOST_BYTES}
 use Rattle.loop_node.specs.Sessions.{Node}
 use Rattle.loop_node.specs.Replies.{Answers}
 use Rattle.loop_node.specs.Serving.{ask_in, reply_bytes, go_on, response_to, Serves, Waits, refusal, LastWords, Served, Spelled, IsWaiting, Words, going_on, refusing, CutShort}
-use Rattle.loop_node.specs.Connections.{LinkTold, Moved, IsLast, ServedOver, BrokenOff, ReadsOn, SpellsOn, Serving, ServingOver, Responds, further, AfterTurn, HasRead, HasEndedHere, IsRead, WroteFront, StopsAt, unanswered, answered, ReadSome, TellsFront, work}
+use Rattle.grid_outside.specs.Told.{LinkView}
+use Rattle.loop_node.specs.Connections.{Moved, IsLast, ServedOver, BrokenOff, ReadsOn, SpellsOn, Serving, ServingOver, Responds, further, AfterTurn, HasRead, HasEndedHere, IsRead, WroteFront, StopsAt, unanswered, answered, ReadSome, TellsFront, work}
 use Rattle.loop_node.proofs.WritingLemmas.{moved_none, moved_wrote, moved_read, rose_later}
 
 -- ---- heads
@@ -246,7 +247,7 @@ same_values node now came written rest rest2 told told2 frames frames2 left left
     (subst (λ (x : ℕ). Serving node now came written rest told x left2) (sym f)
     (subst (λ (x : ℕ). Serving node now came written rest told frames x) (sym l) s)))
 
-pub over_new : (node : Node) (start : LinkTold) (incoming : Incoming) → incoming.bytes.items ≡ [] → incoming.left ≡ MOST_BYTES → incoming.frames ≡ 0 → incoming.told ≡ false → ServingOver node node start start incoming
+pub over_new : (node : Node) (start : LinkView) (incoming : Incoming) → incoming.bytes.items ≡ [] → incoming.left ≡ MOST_BYTES → incoming.frames ≡ 0 → incoming.told ≡ false → ServingOver node node start start incoming
 over_new node start incoming b l f t = record {
   came = [];
   written = [];
@@ -266,7 +267,7 @@ over_new node start incoming b l f t = record {
   });
 }
 
-pub over_told : (first now : Node) (start before after : LinkTold) (old new : Incoming) → new.bytes ≡ old.bytes → new.left ≡ old.left → new.frames ≡ old.frames → Waits old.bytes.items new.told →
+pub over_told : (first now : Node) (start before after : LinkView) (old new : Incoming) → new.bytes ≡ old.bytes → new.left ≡ old.left → new.frames ≡ old.frames → Waits old.bytes.items new.told →
     Moved before after [] (further old.told new.told) → ServingOver first now start before old → ServingOver first now start after new
 over_told first now start before after old new b l f k m s = record {
   came = s.came;
@@ -279,7 +280,7 @@ over_told first now start before after old new b l f k m s = record {
 most_of : (came left : ℕ) → came + left ≡ MOST_BYTES → came ≤ MOST_BYTES
 most_of came left e = omega (arith, e)
 
-pub after_whole : Stays → (closing : Bool) (first now new : Node) (start before after : LinkTold) (old next : Incoming) (n : ℕ) (h : RequestHead) (parts : List (List ℕ)) → closing ≡ closes h →
+pub after_whole : Stays → (closing : Bool) (first now new : Node) (start before after : LinkView) (old next : Incoming) (n : ℕ) (h : RequestHead) (parts : List (List ℕ)) → closing ≡ closes h →
     Waits old.bytes.items old.told → n ≤ length old.bytes.items → IsWhole LIMITS old.bytes.items h parts (drop n old.bytes.items) → Responds now new (h, parts) before after →
     next.bytes.items ≡ drop n old.bytes.items → next.left ≡ old.left → next.frames ≡ old.frames + 1 → next.told ≡ false →
     ServingOver first now start before old → AfterTurn (not closing) first new start after next
@@ -302,7 +303,7 @@ after_whole stays false first now new start before after old next n h parts e k 
       (after_reply stays first now new s.came s.written old.bytes.items old.told old.frames old.left n h parts r.reply k le w r.answers (sym e) s.serving);
 }
 
-pub after_refused : (first now : Node) (start before after : LinkTold) (old : Incoming) (why : FrameFault) → Waits old.bytes.items old.told → old.bytes.items ≢ [] → IsRefused LIMITS old.bytes.items why →
+pub after_refused : (first now : Node) (start before after : LinkView) (old : Incoming) (why : FrameFault) → Waits old.bytes.items old.told → old.bytes.items ≢ [] → IsRefused LIMITS old.bytes.items why →
     Moved before after [] (refusal why) → ServingOver first now start before old → ServedOver first now start after old.frames
 after_refused first now start before after old why k some r m s = record {
   bytes = s.came;
@@ -314,7 +315,7 @@ after_refused first now start before after old why k some r m s = record {
   ended = tt;
 }
 
-over_read : (first now : Node) (start before after : LinkTold) (old new : Incoming) → HasRead old new before after → ServingOver first now start before old → ServingOver first now start after new
+over_read : (first now : Node) (start before after : LinkView) (old new : Incoming) → HasRead old new before after → ServingOver first now start before old → ServingOver first now start after new
 over_read first now start before after old new r s = record {
   came = s.came ++ r.piece;
   written = s.written;
@@ -323,17 +324,17 @@ over_read first now start before after old new r s = record {
       (after_piece first now s.came s.written old.bytes.items old.told old.frames old.left new.left r.piece r.left_is s.serving);
 }
 
-last_by : (came left : ℕ) (start before after : LinkTold) → came + left ≡ MOST_BYTES → start.ends ≤ before.ends → (left ≡ 0) ⊎ Rose before.ends after.ends → IsLast came start after
+last_by : (came left : ℕ) (start before after : LinkView) → came + left ≡ MOST_BYTES → start.ends ≤ before.ends → (left ≡ 0) ⊎ Rose before.ends after.ends → IsLast came start after
 last_by came left start before after e le (inl none) = inl (omega (arith, e, none))
 last_by came left start before after e le (inr rose) = inr (rose_later start.ends before.ends after.ends le rose)
 
-abbrev ended_by : (first now : Node) (start before after : LinkTold) (old new : Incoming) → HasEndedHere old new before after → (s : ServingOver first now start before old) → IsLast (length s.came) start after
+abbrev ended_by : (first now : Node) (start before after : LinkView) (old new : Incoming) → HasEndedHere old new before after → (s : ServingOver first now start before old) → IsLast (length s.came) start after
 ended_by first now start before after old new r s = last_by (length s.came) old.left start before after s.serving.left_is s.moved.later.ends r.cause
 
-moved_still : (start before after : LinkTold) (came written : List ℕ) → Moved start before came written → Moved before after [] [] → Moved start after came written
+moved_still : (start before after : LinkView) (came written : List ℕ) → Moved start before came written → Moved before after [] [] → Moved start after came written
 moved_still start before after came written p q = subst (Moved start after came) (append-nil written) (moved_wrote start before after came written [] p q)
 
-over_cut : (first now : Node) (start before after : LinkTold) (old new : Incoming) (waits : Bool) → Waits old.bytes.items old.told → old.bytes.items ≢ [] → IsAwaited LIMITS old.bytes.items waits →
+over_cut : (first now : Node) (start before after : LinkView) (old new : Incoming) (waits : Bool) → Waits old.bytes.items old.told → old.bytes.items ≢ [] → IsAwaited LIMITS old.bytes.items waits →
     HasEndedHere old new before after → ServingOver first now start before old → ServedOver first now start after new.frames
 over_cut first now start before after old new waits k some a r s = record {
   bytes = s.came;
@@ -347,7 +348,7 @@ over_cut first now start before after old new waits k some a r s = record {
   ended = ended_by first now start before after old new r s;
 }
 
-over_closed : (first now : Node) (start before after : LinkTold) (old new : Incoming) → old.bytes.items ≡ [] →
+over_closed : (first now : Node) (start before after : LinkView) (old new : Incoming) → old.bytes.items ≡ [] →
     HasEndedHere old new before after → ServingOver first now start before old → ServedOver first now start after new.frames
 over_closed first now start before after old new e r s = record {
   bytes = s.came;
@@ -361,25 +362,25 @@ over_closed first now start before after old new e r s = record {
   ended = ended_by first now start before after old new r s;
 }
 
-read_or_closed : (goes : Bool) (first now : Node) (start before after : LinkTold) (old new : Incoming) → old.bytes.items ≡ [] → IsRead goes old new before after → ServingOver first now start before old → AfterTurn goes first now start after new
+read_or_closed : (goes : Bool) (first now : Node) (start before after : LinkView) (old new : Incoming) → old.bytes.items ≡ [] → IsRead goes old new before after → ServingOver first now start before old → AfterTurn goes first now start after new
 read_or_closed true first now start before after old new e r s = over_read first now start before after old new r s
 read_or_closed false first now start before after old new e r s = over_closed first now start before after old new e r s
 
-read_or_cut : (goes : Bool) (first now : Node) (start before after : LinkTold) (old new : Incoming) (waits : Bool) → Waits old.bytes.items old.told → old.bytes.items ≢ [] → IsAwaited LIMITS old.bytes.items waits →
+read_or_cut : (goes : Bool) (first now : Node) (start before after : LinkView) (old new : Incoming) (waits : Bool) → Waits old.bytes.items old.told → old.bytes.items ≢ [] → IsAwaited LIMITS old.bytes.items waits →
     IsRead goes old new before after → ServingOver first now start before old → AfterTurn goes first now start after new
 read_or_cut true first now start before after old new waits k some a r s = over_read first now start before after old new r s
 read_or_cut false first now start before after old new waits k some a r s = over_cut first now start before after old new waits k some a r s
 
 -- with nothing at hand
-pub read_first : {E : Type 0} (r : Result Bool E) (now : Node) (before after : LinkTold) (old new : Incoming) → old.bytes.items ≡ [] → IfOk r (λ goes. IsRead goes old new before after) →
-    IfOk r (λ goes. (first : Node) (start : LinkTold) → ServingOver first now start before old → AfterTurn goes first now start after new)
+pub read_first : {E : Type 0} (r : Result Bool E) (now : Node) (before after : LinkView) (old new : Incoming) → old.bytes.items ≡ [] → IfOk r (λ goes. IsRead goes old new before after) →
+    IfOk r (λ goes. (first : Node) (start : LinkView) → ServingOver first now start before old → AfterTurn goes first now start after new)
 read_first (Ok goes) now before after old new e h = λ first start s. read_or_closed goes first now start before after old new e h s
 read_first (Err f) now before after old new e h = tt
 
 -- behind a request that is not whole
-pub read_further : {E : Type 0} (r : Result Bool E) (now : Node) (before middle after : LinkTold) (old told new : Incoming) (waits : Bool) → told.bytes ≡ old.bytes → told.left ≡ old.left → told.frames ≡ old.frames →
+pub read_further : {E : Type 0} (r : Result Bool E) (now : Node) (before middle after : LinkView) (old told new : Incoming) (waits : Bool) → told.bytes ≡ old.bytes → told.left ≡ old.left → told.frames ≡ old.frames →
     Waits old.bytes.items told.told → Moved before middle [] (further old.told told.told) → told.bytes.items ≢ [] → IsAwaited LIMITS told.bytes.items waits → IfOk r (λ goes. IsRead goes told new middle after) →
-    IfOk r (λ goes. (first : Node) (start : LinkTold) → ServingOver first now start before old → AfterTurn goes first now start after new)
+    IfOk r (λ goes. (first : Node) (start : LinkView) → ServingOver first now start before old → AfterTurn goes first now start after new)
 read_further (Ok goes) now before middle after old told new waits b l f k m some a h = λ first start s.
     read_or_cut goes first now start middle after told new waits (subst (λ v. Waits v.items told.told) (sym b) k) some a h (over_told first now start before middle old told b l f k m s)
 read_further (Err f) now before middle after old told new waits b l g k m some a h = tt
@@ -402,7 +403,7 @@ no_items xs n l e = nothing xs (grind (arith, nat_tests))
 pub some_items : (xs : List ℕ) (n : ℕ) → length xs ≡ n → (n == 0) ≡ false → xs ≢ []
 some_items xs n l e = λ h. let k = ap length h in false≢true (sym e ∙ (grind (arith, nat_tests)))
 
-pub at_last : (goes : Bool) (first now : Node) (start after : LinkTold) (incoming : Incoming) → not goes ≡ true → AfterTurn goes first now start after incoming → ServedOver first now start after incoming.frames
+pub at_last : (goes : Bool) (first now : Node) (start after : LinkView) (incoming : Incoming) → not goes ≡ true → AfterTurn goes first now start after incoming → ServedOver first now start after incoming.frames
 at_last true first now start after incoming e a = absurd (false≢true e)
 at_last false first now start after incoming e a = a
 
@@ -460,7 +461,7 @@ cut_front node now came written rest told frames left words front unwritten due 
     (append_assoc written front unwritten ∙ ap (λ (x : List ℕ). written ++ x) e ∙ f))
 
 -- after a read that failed, or whose piece found no memory
-broken_read : (first now : Node) (start before after : LinkTold) (old : Incoming) → ReadSome before after → ServingOver first now start before old → BrokenOff first now start after
+broken_read : (first now : Node) (start before after : LinkView) (old : Incoming) → ReadSome before after → ServingOver first now start before old → BrokenOff first now start after
 broken_read first now start before after old r s = record {
   bytes = s.came ++ r.piece;
   written = s.written;
@@ -471,20 +472,20 @@ broken_read first now start before after old r s = record {
       (append-nil s.written ∙ s.serving.written_is);
 }
 
-pub broken_first : {E : Type 0} (r : Result Bool E) (now : Node) (before after : LinkTold) (old : Incoming) → OnErr r (ReadSome before after) →
-    OnErr r ((first : Node) (start : LinkTold) → ServingOver first now start before old → BrokenOff first now start after)
+pub broken_first : {E : Type 0} (r : Result Bool E) (now : Node) (before after : LinkView) (old : Incoming) → OnErr r (ReadSome before after) →
+    OnErr r ((first : Node) (start : LinkView) → ServingOver first now start before old → BrokenOff first now start after)
 broken_first (Ok goes) now before after old h = tt
 broken_first (Err f) now before after old h = λ first start s. broken_read first now start before after old h s
 
-pub broken_further : {E : Type 0} (r : Result Bool E) (now : Node) (before middle after : LinkTold) (old told : Incoming) → told.bytes ≡ old.bytes → told.left ≡ old.left → told.frames ≡ old.frames →
+pub broken_further : {E : Type 0} (r : Result Bool E) (now : Node) (before middle after : LinkView) (old told : Incoming) → told.bytes ≡ old.bytes → told.left ≡ old.left → told.frames ≡ old.frames →
     Waits old.bytes.items told.told → Moved before middle [] (further old.told told.told) → OnErr r (ReadSome middle after) →
-    OnErr r ((first : Node) (start : LinkTold) → ServingOver first now start before old → BrokenOff first now start after)
+    OnErr r ((first : Node) (start : LinkView) → ServingOver first now start before old → BrokenOff first now start after)
 broken_further (Ok goes) now before middle after old told b l f k m h = tt
 broken_further (Err e) now before middle after old told b l f k m h = λ first start s.
     broken_read first now start middle after told h (over_told first now start before middle old told b l f k m s)
 
 -- after a write that failed, of what tells a client to go on
-pub broken_tell : (first now : Node) (start before after : LinkTold) (old : Incoming) → TellsFront old.bytes.items old.told before after → ServingOver first now start before old → BrokenOff first now start after
+pub broken_tell : (first now : Node) (start before after : LinkView) (old : Incoming) → TellsFront old.bytes.items old.told before after → ServingOver first now start before old → BrokenOff first now start after
 broken_tell first now start before after old t s = record {
   bytes = s.came;
   written = s.written ++ t.wrote.front;
@@ -497,7 +498,7 @@ broken_tell first now start before after old t s = record {
 }
 
 -- of a refusal
-pub broken_refusal : (first now : Node) (start before after : LinkTold) (old : Incoming) (why : FrameFault) → Waits old.bytes.items old.told → IsRefused LIMITS old.bytes.items why → WroteFront before after (refusal why) →
+pub broken_refusal : (first now : Node) (start before after : LinkView) (old : Incoming) (why : FrameFault) → Waits old.bytes.items old.told → IsRefused LIMITS old.bytes.items why → WroteFront before after (refusal why) →
     ServingOver first now start before old → BrokenOff first now start after
 broken_refusal first now start before after old why k r w s = record {
   bytes = s.came;
@@ -509,11 +510,11 @@ broken_refusal first now start before after old why k r w s = record {
       (ap (λ (x : List ℕ). x ++ refusal why) s.serving.written_is ∙ append_assoc s.serving.responses (go_on old.told) (refusal why));
 }
 
-broken_unanswered : (first now : Node) (start before after : LinkTold) (old : Incoming) → Moved before after [] [] → ServingOver first now start before old → BrokenOff first now start after
+broken_unanswered : (first now : Node) (start before after : LinkView) (old : Incoming) → Moved before after [] [] → ServingOver first now start before old → BrokenOff first now start after
 broken_unanswered first now start before after old m s = broken_read first now start before after old (record { piece = []; moved = m }) s
 
 -- of a response, or before it was made
-pub broken_response : Stays → (first now new : Node) (start before after : LinkTold) (old : Incoming) (h : RequestHead) (parts : List (List ℕ)) (behind : List ℕ) → Waits old.bytes.items old.told →
+pub broken_response : Stays → (first now new : Node) (start before after : LinkView) (old : Incoming) (h : RequestHead) (parts : List (List ℕ)) (behind : List ℕ) → Waits old.bytes.items old.told →
     IsWhole LIMITS old.bytes.items h parts behind → StopsAt now new (h, parts) before after → ServingOver first now start before old → BrokenOff first new start after
 broken_response stays first now new start before after old h parts behind k w (unanswered same m) s =
     subst (λ (n : Node). BrokenOff first n start after) (sym same) (broken_unanswered first now start before after old m s)

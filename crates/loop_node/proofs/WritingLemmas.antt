@@ -7,10 +7,10 @@ use Rattle.std.proofs.lemmas.Grind.{common_steps}
 use Rattle.http_frames.specs.declared.replies.NodeReply.{NodeReply}
 use Rattle.http_frames.specs.Writing.{optional_line, response_bytes, has_no_body, length_line}
 use Rattle.grid_outside.specs.Counts.{Rose}
-use Rattle.grid_outside.specs.Told.{Gains}
+use Rattle.grid_outside.specs.Told.{Gains, LinkView}
 use Rattle.grid_outside.specs.Exchanges.{lent}
 use Rattle.loop_node.specs.Serving.{value_line, reply_bytes}
-use Rattle.loop_node.specs.Connections.{LinkTold, Later, Moved, WroteFront}
+use Rattle.loop_node.specs.Connections.{Later, Moved, WroteFront}
 
 -- ---- what is told gains piece by piece
 
@@ -32,10 +32,10 @@ gains_next a b c done n bytes p q = subst (Gains a c) (sym (take_next done n byt
 
 -- ---- counts
 
-pub later_none : (a : LinkTold) → Later a a
+pub later_none : (a : LinkView) → Later a a
 later_none a = record { ends = omega arith; reads = omega arith; writes = omega arith }
 
-pub later_more : (a b c : LinkTold) → Later a b → Later b c → Later a c
+pub later_more : (a b c : LinkView) → Later a b → Later b c → Later a c
 later_more a b c p q = record {
   ends = let x = p.ends in let y = q.ends in omega arith;
   reads = let x = p.reads in let y = q.reads in omega arith;
@@ -48,17 +48,17 @@ rose_later a b c le (inr most) = inr most
 
 -- ---- the link
 
-pub moved_none : (a : LinkTold) → Moved a a [] []
+pub moved_none : (a : LinkView) → Moved a a [] []
 moved_none a = record { given = gains_none a.given; taken = gains_none a.taken; later = later_none a }
 
-pub moved_wrote : (a b c : LinkTold) (came written words : List ℕ) → Moved a b came written → Moved b c [] words → Moved a c came (written ++ words)
+pub moved_wrote : (a b c : LinkView) (came written words : List ℕ) → Moved a b came written → Moved b c [] words → Moved a c came (written ++ words)
 moved_wrote a b c came written words p q = record {
   given = subst (Gains a.given c.given) (append-nil came) (gains_more a.given b.given c.given came [] p.given q.given);
   taken = gains_more a.taken b.taken c.taken written words p.taken q.taken;
   later = later_more a b c p.later q.later;
 }
 
-pub moved_read : (a b c : LinkTold) (came written piece : List ℕ) → Moved a b came written → Moved b c piece [] → Moved a c (came ++ piece) written
+pub moved_read : (a b c : LinkView) (came written piece : List ℕ) → Moved a b came written → Moved b c piece [] → Moved a c (came ++ piece) written
 moved_read a b c came written piece p q = record {
   given = gains_more a.given b.given c.given came piece p.given q.given;
   taken = subst (Gains a.taken c.taken) (append-nil written) (gains_more a.taken b.taken c.taken written [] p.taken q.taken);
@@ -109,5 +109,5 @@ pub same_given : (a b c : Option (List ℕ)) (more : List ℕ) → Gains a b mor
 same_given a b c more h e = subst (λ t. Gains a t more) (sym e) h
 
 -- nothing was written
-pub wrote_nothing : (a : LinkTold) (bytes : List ℕ) → WroteFront a a bytes
+pub wrote_nothing : (a : LinkView) (bytes : List ℕ) → WroteFront a a bytes
 wrote_nothing a bytes = record { front = []; unwritten = bytes; are = refl; moved = moved_none a }

@@ -1,7 +1,8 @@
 //! Serving the node over one connection.
 ghost use Rattle.std.specs.Prelude.{◌≡◌, ℕ, ◌<◌, ◌≤◌, true, false, List, length, IfOk, IfErr, OnOk, OnErr};
 ghost use Rattle.loop_node.specs.Sessions.{Node};
-ghost use Rattle.loop_node.specs.Connections.{LinkTold, told_by, Later, Blames, ServedOver, ServingOver, BrokenOff, AfterTurn, IsRead, ReadSome, work};
+ghost use Rattle.grid_outside.specs.Told.{LinkView};
+ghost use Rattle.loop_node.specs.Connections.{Later, Blames, ServedOver, ServingOver, BrokenOff, AfterTurn, IsRead, ReadSome, work};
 
 use crate::incoming::Incoming;
 use crate::node::LoopNode;
@@ -31,19 +32,19 @@ pub fn serve_node<L: Link>(
     link: &mut L,
 ) -> Result<u64, NodeFault>
     ensures ok { IfOk result (ServedOver node.old node.new
-        (told_by L.given L.taken L.ends L.read_faults L.write_faults link.old)
-        (told_by L.given L.taken L.ends L.read_faults L.write_faults link.new)) }
+        (L.view link.old)
+        (L.view link.new)) }
     // After a fault a front of what is due was written.
     ensures broken { OnErr result (BrokenOff node.old node.new
-        (told_by L.given L.taken L.ends L.read_faults L.write_faults link.old)
-        (told_by L.given L.taken L.ends L.read_faults L.write_faults link.new)) }
+        (L.view link.old)
+        (L.view link.new)) }
     ensures later { Later
-        (told_by L.given L.taken L.ends L.read_faults L.write_faults link.old)
-        (told_by L.given L.taken L.ends L.read_faults L.write_faults link.new) }
+        (L.view link.old)
+        (L.view link.new) }
     // Each fault has its count; out of memory has none.
     ensures err { IfErr result (λ why. Blames why
-        (told_by L.given L.taken L.ends L.read_faults L.write_faults link.old)
-        (told_by L.given L.taken L.ends L.read_faults L.write_faults link.new)) }
+        (L.view link.old)
+        (L.view link.new)) }
 {
     let mut incoming = Incoming::new(alloc);
     'turns: loop {
@@ -61,23 +62,23 @@ fn turn<L: Link>(
     link: &mut L,
     incoming: &mut Incoming,
 ) -> Result<bool, NodeFault>
-    ensures ok { IfOk result (λ goes. (first : Node) (start : LinkTold)
+    ensures ok { IfOk result (λ goes. (first : Node) (start : LinkView)
         → ServingOver first node.old start
-        (told_by L.given L.taken L.ends L.read_faults L.write_faults link.old) incoming.old
+        (L.view link.old) incoming.old
         → AfterTurn goes first node.new start
-        (told_by L.given L.taken L.ends L.read_faults L.write_faults link.new) incoming.new) }
+        (L.view link.new) incoming.new) }
     ensures less { IfOk result (λ goes. goes ≡ true → work incoming.new < work incoming.old) }
-    ensures broken { OnErr result ((first : Node) (start : LinkTold)
+    ensures broken { OnErr result ((first : Node) (start : LinkView)
         → ServingOver first node.old start
-        (told_by L.given L.taken L.ends L.read_faults L.write_faults link.old) incoming.old
+        (L.view link.old) incoming.old
         → BrokenOff first node.new start
-        (told_by L.given L.taken L.ends L.read_faults L.write_faults link.new)) }
+        (L.view link.new)) }
     ensures later { Later
-        (told_by L.given L.taken L.ends L.read_faults L.write_faults link.old)
-        (told_by L.given L.taken L.ends L.read_faults L.write_faults link.new) }
+        (L.view link.old)
+        (L.view link.new) }
     ensures err { IfErr result (λ why. Blames why
-        (told_by L.given L.taken L.ends L.read_faults L.write_faults link.old)
-        (told_by L.given L.taken L.ends L.read_faults L.write_faults link.new)) }
+        (L.view link.old)
+        (L.view link.new)) }
 {
     if incoming.bytes.is_empty() {
         return read_more(link, incoming);
@@ -103,17 +104,17 @@ fn turn<L: Link>(
 /// Reads a piece, and says whether there was one: none after the most bytes and at the end of input.
 fn read_more<L: Link>(link: &mut L, incoming: &mut Incoming) -> Result<bool, NodeFault>
     ensures ok { IfOk result (λ goes. IsRead goes incoming.old incoming.new
-        (told_by L.given L.taken L.ends L.read_faults L.write_faults link.old)
-        (told_by L.given L.taken L.ends L.read_faults L.write_faults link.new)) }
+        (L.view link.old)
+        (L.view link.new)) }
     ensures some { OnErr result (ReadSome
-        (told_by L.given L.taken L.ends L.read_faults L.write_faults link.old)
-        (told_by L.given L.taken L.ends L.read_faults L.write_faults link.new)) }
+        (L.view link.old)
+        (L.view link.new)) }
     ensures later { Later
-        (told_by L.given L.taken L.ends L.read_faults L.write_faults link.old)
-        (told_by L.given L.taken L.ends L.read_faults L.write_faults link.new) }
+        (L.view link.old)
+        (L.view link.new) }
     ensures err { IfErr result (λ why. Blames why
-        (told_by L.given L.taken L.ends L.read_faults L.write_faults link.old)
-        (told_by L.given L.taken L.ends L.read_faults L.write_faults link.new)) }
+        (L.view link.old)
+        (L.view link.new)) }
 {
     let mut piece = [0; PIECE];
     let room = incoming.left.min(PIECE as u64) as usize;

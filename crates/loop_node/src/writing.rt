@@ -8,7 +8,7 @@ ghost use Rattle.http_frames.specs.declared.frames.TheConstants.{LIMITS};
 ghost use Rattle.grid_outside.specs.Exchanges.{lent};
 ghost use Rattle.loop_node.specs.Replies.{Answers};
 ghost use Rattle.loop_node.specs.Serving.{plain_ask, reply_bytes, refused_reply, refusal, Waits, go_on};
-ghost use Rattle.loop_node.specs.Connections.{told_by, Moved, Later, Blames, Responds, WroteFront, StopsAt, TellsFront, further};
+ghost use Rattle.loop_node.specs.Connections.{Moved, Later, Blames, Responds, WroteFront, StopsAt, TellsFront, further};
 
 use crate::incoming::Incoming;
 use crate::node::LoopNode;
@@ -26,17 +26,17 @@ use wd_bodies::ErrorCode;
 /// Writes all bytes, or up to the first write that fails.
 fn write_all<L: Link>(link: &mut L, bytes: &[u8]) -> Result<(), NodeFault>
     ensures ok { OnOk result (Moved
-        (told_by L.given L.taken L.ends L.read_faults L.write_faults link.old)
-        (told_by L.given L.taken L.ends L.read_faults L.write_faults link.new) [] bytes.now) }
+        (L.view link.old)
+        (L.view link.new) [] bytes.now) }
     ensures front { OnErr result (WroteFront
-        (told_by L.given L.taken L.ends L.read_faults L.write_faults link.old)
-        (told_by L.given L.taken L.ends L.read_faults L.write_faults link.new) bytes.now) }
+        (L.view link.old)
+        (L.view link.new) bytes.now) }
     ensures later { Later
-        (told_by L.given L.taken L.ends L.read_faults L.write_faults link.old)
-        (told_by L.given L.taken L.ends L.read_faults L.write_faults link.new) }
+        (L.view link.old)
+        (L.view link.new) }
     ensures err { IfErr result (λ why. Blames why
-        (told_by L.given L.taken L.ends L.read_faults L.write_faults link.old)
-        (told_by L.given L.taken L.ends L.read_faults L.write_faults link.new)) }
+        (L.view link.old)
+        (L.view link.new)) }
 {
     let mut done = 0;
     'pieces: while done < bytes.len() {
@@ -84,17 +84,17 @@ fn write_reply<L: Link>(
     close: bool,
 ) -> Result<(), NodeFault>
     ensures ok { OnOk result (Moved
-        (told_by L.given L.taken L.ends L.read_faults L.write_faults link.old)
-        (told_by L.given L.taken L.ends L.read_faults L.write_faults link.new) [] (reply_bytes reply.now close)) }
+        (L.view link.old)
+        (L.view link.new) [] (reply_bytes reply.now close)) }
     ensures front { OnErr result (WroteFront
-        (told_by L.given L.taken L.ends L.read_faults L.write_faults link.old)
-        (told_by L.given L.taken L.ends L.read_faults L.write_faults link.new) (reply_bytes reply.now close)) }
+        (L.view link.old)
+        (L.view link.new) (reply_bytes reply.now close)) }
     ensures later { Later
-        (told_by L.given L.taken L.ends L.read_faults L.write_faults link.old)
-        (told_by L.given L.taken L.ends L.read_faults L.write_faults link.new) }
+        (L.view link.old)
+        (L.view link.new) }
     ensures err { IfErr result (λ why. Blames why
-        (told_by L.given L.taken L.ends L.read_faults L.write_faults link.old)
-        (told_by L.given L.taken L.ends L.read_faults L.write_faults link.new)) }
+        (L.view link.old)
+        (L.view link.new)) }
 {
     match response_of(alloc, reply, close) {
         Ok(bytes) => write_all(link, bytes.as_bytes()),
@@ -145,18 +145,18 @@ pub(crate) fn respond<L: Link>(
 ) -> Result<(), NodeFault>
     ensures ok { OnOk result ((h : RequestHead) (parts : List (List ℕ)) → IsFrame LIMITS h parts frame.now
         → Responds node.old node.new (h, parts)
-        (told_by L.given L.taken L.ends L.read_faults L.write_faults link.old)
-        (told_by L.given L.taken L.ends L.read_faults L.write_faults link.new)) }
+        (L.view link.old)
+        (L.view link.new)) }
     ensures stops { OnErr result ((h : RequestHead) (parts : List (List ℕ)) → IsFrame LIMITS h parts frame.now
         → StopsAt node.old node.new (h, parts)
-        (told_by L.given L.taken L.ends L.read_faults L.write_faults link.old)
-        (told_by L.given L.taken L.ends L.read_faults L.write_faults link.new)) }
+        (L.view link.old)
+        (L.view link.new)) }
     ensures later { Later
-        (told_by L.given L.taken L.ends L.read_faults L.write_faults link.old)
-        (told_by L.given L.taken L.ends L.read_faults L.write_faults link.new) }
+        (L.view link.old)
+        (L.view link.new) }
     ensures err { IfErr result (λ why. Blames why
-        (told_by L.given L.taken L.ends L.read_faults L.write_faults link.old)
-        (told_by L.given L.taken L.ends L.read_faults L.write_faults link.new)) }
+        (L.view link.old)
+        (L.view link.new)) }
 {
     let Ok(body) = joined(alloc, frame.body.parts()) else {
         return Err(NodeFault::Memory);
@@ -177,17 +177,17 @@ fn refused_reply(alloc: Global, why: FrameFault) -> Result<NodeReply, NoMemory>
 /// Refuses what stands at the front of the bytes.
 pub(crate) fn refuse<L: Link>(alloc: Global, link: &mut L, why: FrameFault) -> Result<(), NodeFault>
     ensures ok { OnOk result (Moved
-        (told_by L.given L.taken L.ends L.read_faults L.write_faults link.old)
-        (told_by L.given L.taken L.ends L.read_faults L.write_faults link.new) [] (refusal why)) }
+        (L.view link.old)
+        (L.view link.new) [] (refusal why)) }
     ensures front { OnErr result (WroteFront
-        (told_by L.given L.taken L.ends L.read_faults L.write_faults link.old)
-        (told_by L.given L.taken L.ends L.read_faults L.write_faults link.new) (refusal why)) }
+        (L.view link.old)
+        (L.view link.new) (refusal why)) }
     ensures later { Later
-        (told_by L.given L.taken L.ends L.read_faults L.write_faults link.old)
-        (told_by L.given L.taken L.ends L.read_faults L.write_faults link.new) }
+        (L.view link.old)
+        (L.view link.new) }
     ensures err { IfErr result (λ why. Blames why
-        (told_by L.given L.taken L.ends L.read_faults L.write_faults link.old)
-        (told_by L.given L.taken L.ends L.read_faults L.write_faults link.new)) }
+        (L.view link.old)
+        (L.view link.new)) }
 {
     match refused_reply(alloc, why) {
         Ok(reply) => write_reply(alloc, link, &reply, true),
@@ -198,17 +198,17 @@ pub(crate) fn refuse<L: Link>(alloc: Global, link: &mut L, why: FrameFault) -> R
 /// Tells a client that waits to go on, where it was not told before.
 fn tell_once<L: Link>(link: &mut L, told: bool, waits: bool) -> Result<(), NodeFault>
     ensures ok { OnOk result (Moved
-        (told_by L.given L.taken L.ends L.read_faults L.write_faults link.old)
-        (told_by L.given L.taken L.ends L.read_faults L.write_faults link.new) [] (further told waits)) }
+        (L.view link.old)
+        (L.view link.new) [] (further told waits)) }
     ensures front { OnErr result (WroteFront
-        (told_by L.given L.taken L.ends L.read_faults L.write_faults link.old)
-        (told_by L.given L.taken L.ends L.read_faults L.write_faults link.new) (further told waits)) }
+        (L.view link.old)
+        (L.view link.new) (further told waits)) }
     ensures later { Later
-        (told_by L.given L.taken L.ends L.read_faults L.write_faults link.old)
-        (told_by L.given L.taken L.ends L.read_faults L.write_faults link.new) }
+        (L.view link.old)
+        (L.view link.new) }
     ensures err { IfErr result (λ why. Blames why
-        (told_by L.given L.taken L.ends L.read_faults L.write_faults link.old)
-        (told_by L.given L.taken L.ends L.read_faults L.write_faults link.new)) }
+        (L.view link.old)
+        (L.view link.new)) }
 {
     if waits && !told {
         write_all(link, CONTINUE)
@@ -224,17 +224,17 @@ pub(crate) fn tell<L: Link>(link: &mut L, incoming: &mut Incoming) -> Result<(),
     ensures frames { incoming.new.frames ≡ incoming.old.frames }
     ensures waits { OnOk result (Waits incoming.old.bytes.items incoming.new.told) }
     ensures ok { OnOk result (Moved
-        (told_by L.given L.taken L.ends L.read_faults L.write_faults link.old)
-        (told_by L.given L.taken L.ends L.read_faults L.write_faults link.new) [] (further incoming.old.told incoming.new.told)) }
+        (L.view link.old)
+        (L.view link.new) [] (further incoming.old.told incoming.new.told)) }
     ensures front { OnErr result (TellsFront incoming.old.bytes.items incoming.old.told
-        (told_by L.given L.taken L.ends L.read_faults L.write_faults link.old)
-        (told_by L.given L.taken L.ends L.read_faults L.write_faults link.new)) }
+        (L.view link.old)
+        (L.view link.new)) }
     ensures later { Later
-        (told_by L.given L.taken L.ends L.read_faults L.write_faults link.old)
-        (told_by L.given L.taken L.ends L.read_faults L.write_faults link.new) }
+        (L.view link.old)
+        (L.view link.new) }
     ensures err { IfErr result (λ why. Blames why
-        (told_by L.given L.taken L.ends L.read_faults L.write_faults link.old)
-        (told_by L.given L.taken L.ends L.read_faults L.write_faults link.new)) }
+        (L.view link.old)
+        (L.view link.new)) }
 {
     let waits = expects_continue(incoming.bytes.as_slice(), LIMITS);
     tell_once(link, incoming.told, waits)?;

@@ -1,6 +1,6 @@
 -- What the steps of a connection say of the hub, of the nodes and of the clock.
-use Rattle.std.specs.Prelude.{◌≡◌, ℕ, ◌≤◌, List, [], ◌∷◌}
-use Rattle.grid_outside.specs.Told.{later_by, Pauses, paused}
+use Rattle.std.specs.Prelude.{◌≡◌, ℕ, ◌≤◌, List, [], ◌∷◌, Some, IfSome}
+use Rattle.grid_outside.specs.Told.{later_by, Pauses, paused, ClockView, Tick, to_tell, to_wait}
 use Rattle.grid_outside.specs.declared.exchange.Ask.{Ask}
 use Rattle.grid_outside.specs.Exchanges.{Came}
 use Rattle.grid_types.specs.declared.config.HubConfig.{HubConfig}
@@ -29,6 +29,17 @@ Exchanges {N} gives n (Exchanged address ask came ∷ steps) m = (next : N) ×
     gives n address ask came next × Exchanges gives next steps m
 Exchanges gives n (Paused ms ∷ steps) m = Exchanges gives n steps m
 
+-- From the state c the clock may give the moment of each call, asked for it once behind the step before, and the moments behind
+-- the pauses; it was asked nothing else, and is in the state d then.
+unfoldable pub Clocked : {C : Type 0} → (C → Tick → ℕ → C → Type 0) → C → List Step → C → Type 0
+Clocked ticks c [] d = d ≡ c
+Clocked {C} ticks c (Called call at reply ∷ steps) d =
+    (next : C) × ticks c to_tell at next × Clocked ticks next steps d
+Clocked {C} ticks c (Spent call at ∷ steps) d = (next : C) × ticks c to_tell at next × Clocked ticks next steps d
+Clocked ticks c (Exchanged address ask came ∷ steps) d = Clocked ticks c steps d
+Clocked {C} ticks c (Paused ms ∷ steps) d =
+    (at : ℕ) × (next : C) × ticks c (to_wait ms) at next × Clocked ticks next steps d
+
 -- on a clock whose moments never fall: each call comes at a moment that it gave, and a pause is as
 -- long as it says
 unfoldable pub Timed : ℕ → List Step → ℕ → Type 0
@@ -54,3 +65,10 @@ pauses_after p (Called call at reply ∷ steps) = pauses_after p steps
 pauses_after p (Spent call at ∷ steps) = pauses_after p steps
 pauses_after p (Exchanged address ask came ∷ steps) = pauses_after p steps
 pauses_after p (Paused ms ∷ steps) = pauses_after (paused ms p) steps
+
+-- What the steps say of a clock that tells this before and after them: moments never fall, and a clock that tells its pauses
+-- made just theirs and stood still but for them.
+pub record KeepsTime (old : ClockView) (steps : List Step) (new : ClockView) : Type 0 where
+  pub timed : Timed old.moment steps new.moment
+  pub told : IfSome old.pauses (λ pauses. (new.pauses ≡ Some (pauses_after pauses steps))
+      × Still old.moment steps new.moment)

@@ -7,7 +7,7 @@ use Rattle.grid_types.specs.Capabilities.{request_bytes}
 use Rattle.grid_types.specs.Requests.{Place, waiting, Asked, place, is_waiting, is_barred, choices_of}
 use Rattle.grid_types.specs.Lists.{has}
 use Rattle.session_queue.specs.Laws.{Known, laws}
-use Rattle.dispatch_laws.specs.Kinds.{choices_eq, same_bars, is_alike}
+use Rattle.request_laws.specs.Kinds.{choices_eq, same_bars, is_alike}
 use Rattle.session_queue.specs.declared.request.Request.{Request}
 use Rattle.session_queue.specs.Table.{RowTells, same_tried, is_like, are_like}
 

@@ -5,7 +5,7 @@ use Rattle.std.specs.List.{list_all}
 use Rattle.session_queue.specs.RequestLaws.{Divides}
 use Rattle.grid_types.specs.Lists.{has}
 use Rattle.session_queue.specs.Laws.{Known, laws}
-use Rattle.dispatch_laws.specs.Leads.{HasLead, are_apart, Leads}
+use Rattle.request_laws.specs.Leads.{HasLead, are_apart, Leads}
 
 pub same-is : (m n : ℕ) → nat_eq m n ≡ true → m ≡ n
 same-is m n h = grind arith

@@ -7,8 +7,8 @@ use Rattle.grid_types.specs.declared.entry.Outcome.{Outcome}
 use Rattle.grid_types.specs.Requests.{place, is_waiting}
 use Rattle.grid_types.specs.Lists.{has}
 use Rattle.session_queue.specs.Laws.{Known, laws}
-use Rattle.dispatch_laws.specs.Kinds.{is_alike}
-use Rattle.dispatch_laws.specs.Leads.{Leads, LeadKinds}
+use Rattle.request_laws.specs.Kinds.{is_alike}
+use Rattle.request_laws.specs.Leads.{Leads, LeadKinds}
 use Rattle.session_queue.specs.declared.request.Request.{Request}
 use Rattle.session_queue.specs.declared.request_table.RequestTable.{RequestTable}
 use Rattle.session_queue.specs.Table.{row, Stands, waits, are_like, alike_in, waits_in, waits_but, KeepsLeads, Leaves, Joins, AddsLead, DropsLead, IsNextLike, FindsLike, MapsRow, Settles, SetsRow, SameRows, settling, bytes_in}

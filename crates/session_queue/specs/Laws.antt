@@ -1,6 +1,6 @@
 -- The laws of the crates below by which the table is proved.
 use Rattle.grid_types.specs.HistoryLaws as of_history
-use Rattle.dispatch_laws.specs.KindLaws.{KindLaws}
+use Rattle.request_laws.specs.KindLaws.{KindLaws}
 
 -- those of histories, and of kinds of requests
 pub record QueueLaws : Type 0 where

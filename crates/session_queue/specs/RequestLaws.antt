@@ -7,7 +7,7 @@ use Rattle.grid_types.specs.declared.entry.Entry.{Entry}
 use Rattle.grid_types.specs.Lists.{has, least}
 use Rattle.grid_types.specs.History.{requests}
 use Rattle.grid_types.specs.Legal.{legal}
-use Rattle.dispatch_laws.specs.Leads.{are_apart}
+use Rattle.request_laws.specs.Leads.{are_apart}
 
 -- what is asked of being alike
 pub record Divides (E : ℕ → ℕ → Bool) : Type 0 where

@@ -4,7 +4,7 @@ ghost use Rattle.std.specs.Cmp.Lexicographic.{pointwise};
 ghost use Rattle.grid_types.specs.declared.entry.Entry.{Entry};
 ghost use Rattle.grid_types.specs.Matching.{same_value};
 ghost use Rattle.grid_types.specs.Requests.{place, is_waiting};
-ghost use Rattle.dispatch_laws.specs.Kinds.{cap_eq, choices_eq, is_alike};
+ghost use Rattle.request_laws.specs.Kinds.{cap_eq, choices_eq, is_alike};
 ghost use Rattle.session_queue.specs.Table.{RowTells, is_like, same_tried};
 
 use crate::laws::queue_laws;

@@ -13,12 +13,13 @@ use Rattle.atomic_table.proofs.Lists.{set_here, set_else, at_longer}
 use mathlib.Core.List.{map-append}
 use borrow.Author.Tests.{ltb-true, ltb-false}
 use Rattle.grid_types.specs.declared.entry.Entry.{Entry}
+use Rattle.turn_cell.specs.declared.views.Look.{Look}
 use Rattle.turn_cell.specs.declared.views.View.{View}
 use Rattle.turn_cell.specs.declared.views.Stage.{Stage}
 use Rattle.turn_cell.specs.declared.views.Stage.TheVariants.{Gone, Idle, Waits, Serves, Gives, Joins}
 use Rattle.turn_cell.specs.declared.views.Doing.{Doing}
 use Rattle.turn_cell.specs.Rule.{Track, ticket_of, Held, entries_of, AllBy, AllDiffer, number_of, Owns, IsLive, Knows, Sound, Kept, doing, starting}
-use Rattle.turn_cell.specs.Steps.{looked_once, looked, drawn, seeing, served, after, noted, raised, noting, ticket_in, split_off, newborn, IsUnused, ended_of, joined, gone, settled}
+use Rattle.turn_cell.specs.Steps.{looked_once, looked, remarked, with_look, drawn, seeing, served, after, noted, raised, noting, ticket_in, split_off, newborn, IsUnused, ended_of, joined, gone, settled}
 use Rattle.turn_cell.proofs.Lists.{put, put_here, put_else, moved, moved_there, moved_else, from, from_there, from_else, from_rises, at_end, at_below, prefix_self, prefix_of_append, prefix_shorter, between, entries_mine, entries_else, differ_append}
 use Rattle.turn_cell.proofs.Lives.{seats_stay, owns_each, owns_append, apart_of, ended_exact, live_exact, unused_of, live_on, Follows, knows_on, held_set}
 
@@ -87,6 +88,20 @@ module _ {V M : Type 0} (stands : V → List Entry → Type 0) (mark : V → M) 
         ((λ less. absurd (omega arith)), λ _. (refl, (let b = r.sound.below in let a = r.sound.ahead.0 in let c = r.sound.ahead.1 in let z = l.marked.1 in omega arith))),
       ))
       (λ room. (me.0, keeps, tt, unmoved s r 0 id me.0 me.0 at refl (r.each_seat id me.0 at), ((λ _. refl), λ full. absurd (room full))))
+
+  -- a look that is noted changes what no other seat and no rule speaks of
+  pub remarks : (look : Look) (slots id : ℕ) (me : Sat) → me.0.stage ≡ Idle → Allows Rule slots id me 1 (λ n. n) (remarked look (step slots 1 0 0 none) me)
+  remarks look slots id me is s r _ at _ =
+      let known = knows s r id me Idle at is in
+      let l = known.0 in
+      let w : D = doing Idle (with_look look.session look.found me.0.view) in (
+        w,
+        keeps,
+        tt,
+        unmoved s r 1 id me.0 w at (sym (ap ticket_of is))
+            (record { marked = l.marked; begins = l.begins; long = l.long; looks = l.looks; own = l.own; ended = l.ended; apart = l.apart }, known.1),
+        λ _. refl,
+      )
 
   pub draws : (slots id : ℕ) (me : Sat) (old new : ℕ) → me.0.stage ≡ Idle → old < 2 ^ 62 → new ≡ old + 1
       → Allows Rule slots id me 0 (λ n. either (eqb n old) new n) (drawn (step slots 0 old new none) me)

@@ -137,7 +137,7 @@ module _ {V : Type 0} where
 
   -- the view of the first pass
   abbrev pub opened : V → ℕ → View V
-  opened origin first = record { number = 0; seen = []; since = 0; mine = []; points = []; spent = 0; ended = []; origin = Some origin; first = first }
+  opened origin first = record { number = 0; seen = []; since = 0; mine = []; points = []; found = []; spent = 0; ended = []; origin = Some origin; first = first }
 
   abbrev pub starting : V → ℕ → Doing V
   starting origin first = doing Idle (opened origin first)

@@ -1,5 +1,5 @@
 //! The rule that holds between any two steps, and what each step tells the seat that makes it.
-use crate::stands::{Made, Stands};
+use crate::stands::{Made, Noted, Stands};
 use crate::views::{Doing, Start};
 use atomic_table::{Join, Play, Seat, Split, TableRule};
 use std::marker::{Brand, PhantomData};
@@ -57,6 +57,17 @@ impl<V, E: Made> Play<Option<V>, Doing<V>> for Note<E> {
     ghost then = { noted E.entries };
 }
 
+/// A load of SERVING at which a session is noted as found.
+pub(crate) struct Remark<L> {
+    look: PhantomData<L>,
+}
+
+impl<V, L: Noted> Play<Option<V>, Doing<V>> for Remark<L> {
+    ghost use Rattle.turn_cell.specs.Steps.{remarked};
+
+    ghost then = { remarked L.look };
+}
+
 /// SERVING goes up by 1: the entries that were noted join the history.
 pub(crate) struct Raise;
 
@@ -111,4 +122,12 @@ impl Made for Brand {
     ghost use Rattle.std.specs.Prelude.{[]};
 
     ghost entries = { [] };
+}
+
+// For a look whose caller picks it in its proof.
+impl Noted for Brand {
+    ghost use Rattle.std.specs.Prelude.{[]};
+    ghost use Rattle.grid_types.specs.declared.entry.Found.{Found};
+
+    ghost look = { record { session = []; found = Found.NoSession } };
 }

@@ -1,6 +1,6 @@
 //! What a pass knows. No value of these types is made: they are what contracts and the rule speak of, in which a
 //! `LinkedList` is a list and a `u64` a number with no upper end.
-use grid_types::Entry;
+use grid_types::{Entry, Found, SessionId};
 use std::collections::LinkedList;
 use std::snapshot::Snapshot;
 
@@ -12,6 +12,12 @@ pub struct Ended {
     pub mine: LinkedList<Entry>,
     /// The length of the history at each of its turns.
     pub points: LinkedList<u64>,
+}
+
+/// A session that a pass found without a turn, and where it runs.
+pub struct Look {
+    pub session: SessionId,
+    pub found: Found,
 }
 
 /// What a pass knows. Lists have the oldest first.
@@ -26,6 +32,8 @@ pub struct View<V> {
     pub mine: LinkedList<Entry>,
     /// The length of the history at each of its turns.
     pub points: LinkedList<u64>,
+    /// What it found without a turn, as it was noted.
+    pub found: LinkedList<Look>,
     /// How many of its looks found that no ticket was left.
     pub spent: u64,
     /// The passes that it has joined.

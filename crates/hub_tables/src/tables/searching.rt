@@ -1,15 +1,15 @@
 //! The assignment that is made next, and what is remembered of a search that found none.
 ghost use Rattle.std.specs.Prelude.{◌≡◌, ◌+◌, ◌*◌, ◌≤◌, None, option_map};
 ghost use Rattle.grid_types.specs.History.{nodes as nodes_of};
-ghost use Rattle.dispatch_laws.specs.Kinds.{choices_in, kinds};
+ghost use Rattle.request_laws.specs.Kinds.{choices_in, kinds};
 ghost use Rattle.grid_types.specs.Choice.{chosen};
 ghost use Rattle.hub_walks.specs.First.{as_chosen, NoneBelow, groups_up};
 ghost use Rattle.hub_tables.specs.Tables.{Keeps, Tells};
 
 use crate::tables::HubTables;
-use dispatch_laws::nothing_stays;
 use grid_types::{Moment, ReqNo, chosen_is_first};
 use hub_walks::Assignment;
+use request_laws::nothing_stays;
 use slot_match::Steps;
 use std::sync::ledger::Ledger;
 

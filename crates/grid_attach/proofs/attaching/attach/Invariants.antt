@@ -3,4 +3,4 @@ use Rattle.grid_attach.proofs.attaching.attach.Given as goal
 
 abbrev pub invariant-loop : goal.invariant-loop
 invariant-loop g l =
-    Attached g.N.NodeLink.gives l.hub l.driver l.body l.counter l.initial.nodes (g.C.Clock.moment l.initial.clock) l.known l.nodes (g.C.Clock.moment l.clock)
+    Attached g.N.NodeLink.gives g.C.Clock.gives g.C.Clock.view l.hub l.driver l.body l.counter l.initial.nodes l.initial.clock l.known l.nodes l.clock

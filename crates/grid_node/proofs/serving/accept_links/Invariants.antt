@@ -1,9 +1,9 @@
 use Rattle.std.proofs.Common.{◌≤◌}
+use Rattle.grid_node.specs.Statuses.{NoneFell}
 use Rattle.grid_node.proofs.serving.accept_links.Given as goal
 
--- no count fell
+-- no count fell, and the door is bound where it was
 abbrev pub invariant-loop : goal.invariant-loop
 invariant-loop g l = record {
-  ends : g.D.Door.ends l.fn.door ≤ g.D.Door.ends l.door;
-  faults : g.D.Door.faults l.fn.door ≤ g.D.Door.faults l.door;
+  later : NoneFell (g.D.Door.view l.fn.door) (g.D.Door.view l.door);
 }

@@ -5,7 +5,7 @@ use Rattle.hub_crew.proofs.crews.all_work.Goals as goal
 
 pub returns : goal.returns
 returns g c =
-    let R = HandDid {N = g.row.N.Denot} {C = g.row.C.Denot} c.args.hub.now g.N.NodeLink.gives g.C.Clock.moment g.C.Clock.pauses c.args.turns in
+    let R = HandDid {N = g.row.N.Denot} {C = g.row.C.Denot} c.args.hub.now g.N.NodeLink.gives g.C.Clock.gives g.C.Clock.view c.args.turns in
     record {
       did = zip_each R c.args.hands.now c.for_each_mut.new.s (search rules)
           (λ i d below. let at = (c.for_each_mut.ensures i d below).1 in at_both R at.argument.now at.after_call.now _ _ at.call at.argument_is at.left);

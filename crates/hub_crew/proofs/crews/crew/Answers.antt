@@ -11,12 +11,12 @@ returns-in-Err-clause-spares g c =
 
 pub returns-in-Err-clause-did : goal.returns-in-Err-clause-did
 returns-in-Err-clause-did g c =
-    crew_lacks c.args.hub.now g.N.NodeLink.gives g.C.Clock.moment g.C.Clock.pauses c.args.turns (knows c.args.pass.now) (knows c.hire.new.pass) (knows c.take_back.new.pass)
+    crew_lacks c.args.hub.now g.N.NodeLink.gives g.C.Clock.gives g.C.Clock.view c.args.turns (knows c.args.pass.now) (knows c.hire.new.pass) (knows c.take_back.new.pass)
     c.args.tools.now.items c.hire.new.tools.items c.take_back.new.tools.items c.hire.new.hands.items c.in-Err.fault c.take_back.result c.in-Err.ensures.hired c.take_back.ensures.back
 
 pub take_back-requires-2-clause-each : goal.take_back-requires-2-clause-each
 take_back-requires-2-clause-each g c =
-    did_end c.args.hub.now g.N.NodeLink.gives g.C.Clock.moment g.C.Clock.pauses c.args.turns c.hire.new.hands.items c.all_listed_work.new.hands.items c.all_listed_work.ensures.did
+    did_end c.args.hub.now g.N.NodeLink.gives g.C.Clock.gives g.C.Clock.view c.args.turns c.hire.new.hands.items c.all_listed_work.new.hands.items c.all_listed_work.ensures.did
 
 pub returns-in-Some-clause-spares : goal.returns-in-Some-clause-spares
 returns-in-Some-clause-spares g c =
@@ -28,7 +28,7 @@ returns-in-Some-clause-spares g c =
 
 pub returns-in-Some-clause-did : goal.returns-in-Some-clause-did
 returns-in-Some-clause-did g c =
-    crew_spent c.args.hub.now g.N.NodeLink.gives g.C.Clock.moment g.C.Clock.pauses c.args.turns (knows c.args.pass.now) (knows c.hire.new.pass) (knows c.take_back-2.new.pass)
+    crew_spent c.args.hub.now g.N.NodeLink.gives g.C.Clock.gives g.C.Clock.view c.args.turns (knows c.args.pass.now) (knows c.hire.new.pass) (knows c.take_back-2.new.pass)
     c.args.tools.now.items c.hire.new.tools.items c.take_back-2.new.tools.items c.hire.new.hands.items c.all_listed_work.new.hands.items c.in-Some.spent
     c.in_default-hire.ensures.all c.in_default-hire.ensures.hired c.all_listed_work.ensures.did c.in-Some.ensures.back
 
@@ -42,6 +42,6 @@ returns-in-None-clause-spares g c =
 
 pub returns-in-None-clause-did : goal.returns-in-None-clause-did
 returns-in-None-clause-did g c =
-    crew_done c.args.hub.now g.N.NodeLink.gives g.C.Clock.moment g.C.Clock.pauses c.args.turns (knows c.args.pass.now) (knows c.hire.new.pass) (knows c.take_back-2.new.pass)
+    crew_done c.args.hub.now g.N.NodeLink.gives g.C.Clock.gives g.C.Clock.view c.args.turns (knows c.args.pass.now) (knows c.hire.new.pass) (knows c.take_back-2.new.pass)
     c.args.tools.now.items c.hire.new.tools.items c.take_back-2.new.tools.items c.hire.new.hands.items c.all_listed_work.new.hands.items
     c.in_default-hire.ensures.all c.in_default-hire.ensures.hired c.all_listed_work.ensures.did c.in-None.ensures.back

@@ -8,7 +8,7 @@ returns g c =
       fresh = c.requires.fresh;
       ends = record {
         own = own;
-        ended = worked_ends c.args.hub.now g.N.NodeLink.gives c.args.turns _ c.worker-hand.result _ c.worker-hand.ensures.worked c.requires.fresh.ended;
+        ended = worked_ends c.args.hub.now g.N.NodeLink.gives g.C.Clock.gives c.args.turns _ c.worker-hand.result _ c.worker-hand.ensures.worked c.requires.fresh.ended;
         spent = spent_from _ _ c.worker-hand.result c.worker-hand.ensures.spent c.requires.fresh.spent;
       };
       worked = c.worker-hand.ensures.worked;

@@ -1,7 +1,7 @@
 use Rattle.std.proofs.Common.{◌+◌, ◌*◌, ◌≤◌, take}
 use Rattle.grid_types.specs.History.{nodes}
-use Rattle.dispatch_laws.specs.Kinds.{choices_in}
-use Rattle.dispatch_laws.specs.Leads.{LeadKinds}
+use Rattle.request_laws.specs.Kinds.{choices_in}
+use Rattle.request_laws.specs.Leads.{LeadKinds}
 use Rattle.hub_walks.specs.Stand.{AllTell}
 use Rattle.hub_walks.specs.First.{IsFound, NoneBelow, groups_up}
 use Rattle.hub_walks.proofs.leads.best_of_leads.Given as goal

@@ -10,9 +10,9 @@ abbrev pub invariant-turns : goal.invariant-turns
 invariant-turns g l = record {
   own : IsOf l.hub l.pass;
   fresh : is_fresh l.carry ≡ true;
-  way : UnderWay l.hub g.N.NodeLink.gives l.fn.reservation
-      (world_of (knows l.fn.pass) l.fn.nodes (g.C.Clock.moment l.fn.clock) (g.C.Clock.pauses l.fn.clock)) l.carry
-      (world_of (knows l.pass) l.nodes (g.C.Clock.moment l.clock) (g.C.Clock.pauses l.clock));
+  way : UnderWay l.hub g.N.NodeLink.gives g.C.Clock.gives l.fn.reservation
+      (world_of (knows l.fn.pass) l.fn.nodes l.fn.clock (g.C.Clock.view l.fn.clock)) l.carry
+      (world_of (knows l.pass) l.nodes l.clock (g.C.Clock.view l.clock));
 }
 
 abbrev pub decreases-turns : goal.decreases-turns

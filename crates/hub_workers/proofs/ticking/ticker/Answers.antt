@@ -5,23 +5,23 @@ use Rattle.hub_workers.proofs.WorkLemmas.{turns_all, turns_more, turns_none, tur
 use Rattle.hub_workers.proofs.ticking.ticker.Goals as goal
 
 pub loop-init : goal.loop-init
-loop-init g c = record { own = c.requires; way = turns_none c.args.hub.now g.N.NodeLink.gives TickerTurn _ }
+loop-init g c = record { own = c.requires; way = turns_none c.args.hub.now g.N.NodeLink.gives g.C.Clock.gives TickerTurn _ }
 
 pub loop-preserved : goal.loop-preserved
 loop-preserved g c = record {
   own = c.tick_once.ensures.own;
-  way = turns_more c.args.hub.now g.N.NodeLink.gives TickerTurn c.loop.counter _ _ _ c.loop.invariant.way c.in_default.ensures.turned;
+  way = turns_more c.args.hub.now g.N.NodeLink.gives g.C.Clock.gives TickerTurn c.loop.counter _ _ _ c.loop.invariant.way c.in_default.ensures.turned;
 }
 
 pub returns-in-Some-clause-worked : goal.returns-in-Some-clause-worked
 returns-in-Some-clause-worked g c =
-    turns_stop c.args.hub.now g.N.NodeLink.gives TickerTurn TickerSpent c.args.turns c.loop.counter _ _ _ (search rules) c.loop.invariant.way c.in-Some.ensures.turned
+    turns_stop c.args.hub.now g.N.NodeLink.gives g.C.Clock.gives TickerTurn TickerSpent c.args.turns c.loop.counter _ _ _ (search rules) c.loop.invariant.way c.in-Some.ensures.turned
 
 pub returns-in-Some-clause-spent : goal.returns-in-Some-clause-spent
 returns-in-Some-clause-spent g c =
-    ticker_count c.args.hub.now g.N.NodeLink.gives c.args.turns _ _ (ends.Spent c.in-Some.spent)
-    (turns_stop c.args.hub.now g.N.NodeLink.gives TickerTurn TickerSpent c.args.turns c.loop.counter _ _ _ (search rules) c.loop.invariant.way c.in-Some.ensures.turned)
+    ticker_count c.args.hub.now g.N.NodeLink.gives g.C.Clock.gives c.args.turns _ _ (ends.Spent c.in-Some.spent)
+    (turns_stop c.args.hub.now g.N.NodeLink.gives g.C.Clock.gives TickerTurn TickerSpent c.args.turns c.loop.counter _ _ _ (search rules) c.loop.invariant.way c.in-Some.ensures.turned)
 
 pub returns-clause-spent : goal.returns-clause-spent
-returns-clause-spent g c = ticker_count c.args.hub.now g.N.NodeLink.gives c.args.turns _ _ ends.TurnsDone
-    (turns_all c.args.hub.now g.N.NodeLink.gives TickerTurn c.loop.counter c.args.turns _ _ (search rules) c.loop.invariant.way)
+returns-clause-spent g c = ticker_count c.args.hub.now g.N.NodeLink.gives g.C.Clock.gives c.args.turns _ _ ends.TurnsDone
+    (turns_all c.args.hub.now g.N.NodeLink.gives g.C.Clock.gives TickerTurn c.loop.counter c.args.turns _ _ (search rules) c.loop.invariant.way)

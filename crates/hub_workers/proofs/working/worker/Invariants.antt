@@ -7,7 +7,7 @@ use Rattle.hub_workers.proofs.working.worker.Given as goal
 abbrev pub invariant-loop : goal.invariant-loop
 invariant-loop g l = record {
   own : IsOf l.hub l.pass;
-  way : WentBy l.hub g.N.NodeLink.gives (Turns WorkerTurn l.counter)
-      (world_of (knows l.fn.pass) l.fn.nodes (g.C.Clock.moment l.fn.clock) (g.C.Clock.pauses l.fn.clock))
-      (world_of (knows l.pass) l.nodes (g.C.Clock.moment l.clock) (g.C.Clock.pauses l.clock));
+  way : WentBy l.hub g.N.NodeLink.gives g.C.Clock.gives (Turns WorkerTurn l.counter)
+      (world_of (knows l.fn.pass) l.fn.nodes l.fn.clock (g.C.Clock.view l.fn.clock))
+      (world_of (knows l.pass) l.nodes l.clock (g.C.Clock.view l.clock));
 }

@@ -5,6 +5,6 @@ use Rattle.local_driver.proofs.before.begin.Given as goal
 
 -- the nodes so far gave their sign of life
 abbrev pub invariant-loop-node : goal.invariant-loop-node
-invariant-loop-node g l = WentBy g.N.NodeLink.gives (Beaten (take l.node-index l.own))
-    (world_of l.fn.hub l.fn.nodes (g.C.Clock.moment l.fn.clock) (g.C.Clock.pauses l.fn.clock))
-    (world_of l.hub l.nodes (g.C.Clock.moment l.clock) (g.C.Clock.pauses l.clock))
+invariant-loop-node g l = WentBy g.N.NodeLink.gives g.C.Clock.gives (Beaten (take l.node-index l.own))
+    (world_of l.fn.hub l.fn.nodes l.fn.clock (g.C.Clock.view l.fn.clock))
+    (world_of l.hub l.nodes l.clock (g.C.Clock.view l.clock))

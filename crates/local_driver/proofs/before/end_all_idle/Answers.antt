@@ -6,13 +6,13 @@ use Rattle.local_driver.proofs.BeginLemmas.{all_none, all_more, all_then, all_ov
 use Rattle.local_driver.proofs.before.end_all_idle.Goals as goal
 
 pub looks-init : goal.looks-init
-looks-init g c = all_none g.N.NodeLink.gives _
+looks-init g c = all_none g.N.NodeLink.gives g.C.Clock.gives _
 
 pub looks-preserved : goal.looks-preserved
-looks-preserved g c = all_more g.N.NodeLink.gives _ _ _ c.looks.invariant c.in-Ended.ensures.looked
+looks-preserved g c = all_more g.N.NodeLink.gives g.C.Clock.gives _ _ _ c.looks.invariant c.in-Ended.ensures.looked
 
 pub returns-in-Over : goal.returns-in-Over
-returns-in-Over g c = all_then g.N.NodeLink.gives (Looked idle.Over) (ExpiresOrLacks true) _ _ _ all_over c.looks.invariant c.in-Over.ensures.looked
+returns-in-Over g c = all_then g.N.NodeLink.gives g.C.Clock.gives (Looked idle.Over) (ExpiresOrLacks true) _ _ _ all_over c.looks.invariant c.in-Over.ensures.looked
 
 pub returns-in-Lacks : goal.returns-in-Lacks
-returns-in-Lacks g c = all_then g.N.NodeLink.gives (Looked idle.Lacks) (ExpiresOrLacks false) _ _ _ all_lacking c.looks.invariant c.in-Lacks.ensures.looked
+returns-in-Lacks g c = all_then g.N.NodeLink.gives g.C.Clock.gives (Looked idle.Lacks) (ExpiresOrLacks false) _ _ _ all_lacking c.looks.invariant c.in-Lacks.ensures.looked

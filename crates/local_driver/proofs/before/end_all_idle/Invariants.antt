@@ -5,9 +5,9 @@ use Rattle.local_driver.proofs.before.end_all_idle.Given as goal
 
 -- idle sessions were ended, and nothing else was done
 abbrev pub invariant-looks : goal.invariant-looks
-invariant-looks g l = WentBy g.N.NodeLink.gives AllEnd
-    (world_of l.fn.hub l.fn.nodes (g.C.Clock.moment l.fn.clock) (g.C.Clock.pauses l.fn.clock))
-    (world_of l.hub l.nodes (g.C.Clock.moment l.clock) (g.C.Clock.pauses l.clock))
+invariant-looks g l = WentBy g.N.NodeLink.gives g.C.Clock.gives AllEnd
+    (world_of l.fn.hub l.fn.nodes l.fn.clock (g.C.Clock.view l.fn.clock))
+    (world_of l.hub l.nodes l.clock (g.C.Clock.view l.clock))
 
 -- one session fewer runs each time
 abbrev pub decreases-looks : goal.decreases-looks

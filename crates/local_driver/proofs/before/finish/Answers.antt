@@ -6,8 +6,8 @@ use Rattle.local_driver.proofs.before.finish.Goals as goal
 
 pub returns-clause-finishes : goal.returns-clause-finishes
 returns-clause-finishes g c =
-    finished_so g.N.NodeLink.gives c.args.closing c.ask_to_end-sent.result c.args.hub.now c.freed.new.self c.args.nodes.now c.ask_to_end-sent.new.nodes c.now-now.result.0 _ _ _ _
-    c.ask_to_end-sent.ensures (c.freed.ensures c.now-now.result.0) (ticked _ _ _ _ _ c.now-now.ensures.value c.now-now.ensures.later c.now-now.ensures.still)
+    finished_so g.N.NodeLink.gives g.C.Clock.gives c.args.closing c.ask_to_end-sent.result c.args.hub.now c.freed.new.self c.args.nodes.now c.ask_to_end-sent.new.nodes c.now-now.result.0 _ _ _ _
+    c.ask_to_end-sent.ensures (c.freed.ensures c.now-now.result.0) (ticked _ _ _ _ _ _ c.now-now.ensures.gives c.now-now.ensures.value c.now-now.ensures.later c.now-now.ensures.still)
 
 pub returns-clause-live : goal.returns-clause-live
 returns-clause-live g c =

@@ -1,12 +1,11 @@
 use Rattle.std.proofs.Common.{[], arith, take, drop, take-append-drop}
 use Rattle.std.proofs.lemmas.Grind.{common_steps}
-use Rattle.loop_node.specs.Connections.{told_by}
 use Rattle.loop_node.proofs.WritingLemmas.{gains_next, same_given}
 use Rattle.loop_node.proofs.writing.write_all.Goals as goal
 
 pub pieces-preserved : goal.pieces-preserved
 pieces-preserved g c =
-    let before = told_by g.L.Link.given g.L.Link.taken g.L.Link.ends g.L.Link.read_faults g.L.Link.write_faults c.write.new.self in
+    let before = g.L.Link.view c.write.new.self in
     let moved = c.pieces.invariant.moved in
     record {
       moved = record {

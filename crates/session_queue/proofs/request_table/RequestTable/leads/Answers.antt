@@ -1,5 +1,5 @@
 use Rattle.std.proofs.Common.{ℕ, List, subst, sym}
-use Rattle.dispatch_laws.specs.Leads.{LeadKinds}
+use Rattle.request_laws.specs.Leads.{LeadKinds}
 use Rattle.session_queue.proofs.LeadRowLemmas.{lead-kinds}
 use Rattle.session_queue.proofs.request_table.RequestTable.leads.Goals as goal
 

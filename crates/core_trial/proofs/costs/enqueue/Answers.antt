@@ -1,6 +1,0 @@
-use Rattle.std.proofs.Common.{rules}
-use Rattle.core_trial.proofs.CostLemmas.{enqueue-keeps}
-use Rattle.core_trial.proofs.costs.enqueue.Goals as goal
-
-pub returns-clause-plain : goal.returns-clause-plain
-returns-clause-plain g c = enqueue-keeps _ _ _ _ _ c.args.choices c.enqueue.ensures.serves (search rules) (search rules)

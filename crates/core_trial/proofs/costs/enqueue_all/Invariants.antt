@@ -1,7 +1,0 @@
-use Rattle.std.proofs.Common.{◌≡◌}
-use Rattle.core_trial.specs.Plain.{KeepsPlain}
-use Rattle.core_trial.proofs.costs.enqueue_all.Given as goal
-
--- all stays plain, and nothing was compared
-abbrev pub invariant-loop : goal.invariant-loop
-invariant-loop g l = KeepsPlain 0 l.choices l.initial.core l.core × (l.steps ≡ l.initial.steps)

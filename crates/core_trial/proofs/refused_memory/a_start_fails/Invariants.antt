@@ -1,4 +1,0 @@
-use Rattle.core_trial.proofs.refused_memory.a_start_fails.Given as goal
-
-abbrev pub ghosts-fails : goal.ghosts-fails
-ghosts-fails g a = record { name = a.blank.name; parts = a.blank.parts }

@@ -1,7 +1,0 @@
-use Rattle.dispatch_laws.proofs.LeadLemmas.{leads-are-few}
-use Rattle.dispatch_laws.proofs.laws.leads_are_few.Goals as goal
-
-pub returns : goal.returns
-returns c =
-    let proved = c.history_laws.ensures in
-    leads-are-few proved

@@ -1,5 +1,0 @@
-//! Trials of simulations.
-#![tactic(auto)]
-
-#[cfg(test)]
-mod simulations;

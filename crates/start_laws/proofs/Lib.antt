@@ -1,5 +1,0 @@
-mod CountLemmas
-mod StartLemmas
-mod PollLemmas
-mod NewestLemmas
-mod ClockLemmas

@@ -1,8 +1,0 @@
-use Rattle.start_laws.proofs.ClockLemmas.{keeps_clock, queued_deadline}
-use Rattle.start_laws.proofs.laws.calls_keep_the_clock.Goals as goal
-
-pub returns-clause-clock : goal.returns-clause-clock
-returns-clause-clock c = keeps_clock
-
-pub returns-clause-queued : goal.returns-clause-queued
-returns-clause-queued c = queued_deadline

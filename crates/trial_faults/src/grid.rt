@@ -1,0 +1,78 @@
+//! A shared hub with its nodes, and connections over it.
+ghost use Rattle.hub_cell.specs.Passes.{IsOf};
+
+use grid_outside::{Clock, Link, MemClock, MemLink, MemNodes, NodeLink};
+use grid_types::Moment;
+use hub_cell::{Pass, SharedHub};
+use hub_serving::{ConnFault, Served, serve_shared};
+use std::alloc::Global;
+use std::sync::Wait;
+use trial_play_tables::{Client, asks_of, link_of, plain};
+
+/// What is to be seen of a connection: what is written, how it ends, and what the nodes are asked.
+#[derive(Clone, Copy)]
+pub(crate) struct Wanted<'a> {
+    pub(crate) written: &'a [u8],
+    pub(crate) ended: Result<Served, ConnFault>,
+    pub(crate) asks: &'a str,
+}
+
+/// Serves a connection over any ends, of which a trial asks nothing more.
+fn served<R: Wait, L: Link, N: NodeLink, C: Clock>(
+    rt: &R,
+    alloc: Global,
+    hub: &SharedHub,
+    pass: &mut Pass,
+    nodes: &mut N,
+    link: &mut L,
+    clock: &mut C,
+) -> Result<Served, ConnFault>
+    requires { IsOf hub.now pass.old }
+    ensures { IsOf hub.now pass.new }
+{
+    serve_shared(rt, alloc, hub, pass, link, nodes, clock)
+}
+
+fn are_asked(alloc: Global, nodes: &MemNodes, wanted: &str) -> Option<bool> {
+    let asks = asks_of(alloc, nodes)?;
+    Some(asks.as_str() == wanted)
+}
+
+/// Whether the client is served so from moment 0 on. None is want of memory, as everywhere here.
+pub(crate) fn serves<R: Wait>(
+    rt: &R,
+    alloc: Global,
+    hub: &SharedHub,
+    pass: &mut Pass,
+    nodes: &mut MemNodes,
+    client: &Client<'_>,
+    wanted: &Wanted<'_>,
+) -> Option<bool>
+    requires { IsOf hub.now pass.old }
+    ensures { IsOf hub.now pass.new }
+{
+    let mut link = link_of(alloc, client)?;
+    let mut clock = MemClock::new(Moment(0));
+    let ended = served(rt, alloc, hub, pass, nodes, &mut link, &mut clock);
+    let is_told = ended == wanted.ended && link.taken() == wanted.written;
+    let is_asked = are_asked(alloc, nodes, wanted.asks)?;
+    Some(is_told && is_asked)
+}
+
+/// Makes these requests, for which no node is asked.
+pub(crate) fn asked<R: Wait>(
+    rt: &R,
+    alloc: Global,
+    hub: &SharedHub,
+    pass: &mut Pass,
+    sends: &[u8],
+) -> Option<MemLink>
+    requires { IsOf hub.now pass.old }
+    ensures { IsOf hub.now pass.new }
+{
+    let mut link = link_of(alloc, &plain(sends))?;
+    let mut nodes = MemNodes::new(alloc, Vec::new(alloc));
+    let mut clock = MemClock::new(Moment(0));
+    let _ended = served(rt, alloc, hub, pass, &mut nodes, &mut link, &mut clock);
+    Some(link)
+}

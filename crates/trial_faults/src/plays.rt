@@ -1,0 +1,108 @@
+//! Whole connections over a shared hub, whatever the pieces in which their bytes come and go.
+ghost use Rattle.hub_cell.specs.Passes.{IsOf};
+
+use crate::grid::{Wanted, asked, serves};
+use grid_types::HubConfig;
+use hub_cell::{Pass, SharedHub};
+use hub_serving::Served;
+use std::alloc::Global;
+use std::process::Abort;
+use std::sync::Wait;
+use trial_play_tables::{PIECES, Play, client_in, nodes_of, registers, sent, text_of};
+
+/// A play over one hub: the requests that come before, those of the play, and what is to be seen.
+#[derive(Clone, Copy)]
+struct Scene<'a> {
+    play: &'a Play,
+    registers: &'a [u8],
+    sends: &'a [u8],
+    wanted: Wanted<'a>,
+}
+
+/// Whether it goes so over this hub where a read gives and a write takes so many bytes at most.
+fn goes_over<R: Wait>(
+    rt: &R,
+    alloc: Global,
+    hub: &SharedHub,
+    pass: &mut Pass,
+    scene: &Scene<'_>,
+    gives: usize,
+    takes: usize,
+) -> Option<bool>
+    requires { IsOf hub.now pass.old }
+    ensures { IsOf hub.now pass.new }
+{
+    asked(rt, alloc, hub, pass, scene.registers)?;
+    let client = client_in(scene.sends, gives, takes);
+    let mut nodes = nodes_of(alloc, scene.play.replies, &[])?;
+    serves(rt, alloc, hub, pass, &mut nodes, &client, &scene.wanted)
+}
+
+/// A request waits for a second.
+fn config() -> HubConfig {
+    HubConfig {
+        timeout_ms: 1_000,
+        ..HubConfig::default()
+    }
+}
+
+/// Over a hub of its own.
+fn goes<R: Wait>(
+    rt: &R,
+    alloc: Global,
+    scene: &Scene<'_>,
+    gives: usize,
+    takes: usize,
+) -> Option<bool> {
+    let config = config();
+    if !config.is_valid() {
+        return None;
+    }
+    let (hub, mut pass) = SharedHub::new(rt, alloc, config, 0, 1).ok()?;
+    let so = goes_over(rt, alloc, &hub, &mut pass, scene, gives, takes);
+    pass.let_go();
+    hub.close(rt);
+    so
+}
+
+/// In each of the pieces.
+fn goes_in_pieces<R: Wait>(rt: &R, alloc: Global, scene: &Scene<'_>) -> Option<bool> {
+    for (gives, takes) in &PIECES {
+        if !goes(rt, alloc, scene, *gives, *takes)? {
+            return Some(false);
+        }
+    }
+    Some(true)
+}
+
+/// Whether the play goes as it says in each of the pieces.
+fn goes_so<R: Wait>(rt: &R, alloc: Global, play: &Play) -> Option<bool> {
+    let told = text_of(alloc, play.told)?;
+    let registers = registers(alloc, play.nodes)?;
+    let sends = sent(alloc, play.sends)?;
+    let ended = Served {
+        frames: play.frames,
+        end: play.end,
+        short: false,
+    };
+    let wanted = Wanted {
+        written: told.as_bytes(),
+        ended: Ok(ended),
+        asks: play.asks,
+    };
+    let scene = Scene {
+        play,
+        registers: registers.as_slice(),
+        sends: sends.as_slice(),
+        wanted,
+    };
+    goes_in_pieces(rt, alloc, &scene)
+}
+
+pub(crate) fn go_so<R: Wait + Abort>(rt: &R, alloc: Global, plays: &[Play]) -> Option<()> {
+    for play in plays {
+        let so = goes_so(rt, alloc, play)?;
+        assert!(rt; so, "{}", play.asks);
+    }
+    Some(())
+}

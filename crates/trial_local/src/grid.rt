@@ -1,0 +1,97 @@
+//! Connections over a hub of one thread with its nodes, and what its journal tells.
+use grid_outside::{MemClock, MemLink, MemNodes};
+use grid_types::{Change, Entry, Moment, NodeNo};
+use hub_conn::{ConnFault, Served};
+use hub_core::LocalHub;
+use local_driver::serve_local;
+use std::alloc::Global;
+use trial_play_tables::{Client, asks_of, link_of, plain};
+
+/// What is to be seen of a connection: what is written, how it ends, and what the nodes are asked.
+#[derive(Clone, Copy)]
+pub(crate) struct Wanted<'a> {
+    pub(crate) written: &'a [u8],
+    pub(crate) ended: Result<Served, ConnFault>,
+    pub(crate) asks: &'a str,
+}
+
+/// Serves the connection from moment 0 on. The nodes `own` give a sign of life before each request.
+fn served(
+    alloc: Global,
+    hub: &mut LocalHub,
+    own: &[NodeNo],
+    nodes: &mut MemNodes,
+    link: &mut MemLink,
+) -> Result<Served, ConnFault> {
+    let mut clock = MemClock::new(Moment(0));
+    serve_local(alloc, hub, own, link, nodes, &mut clock)
+}
+
+fn are_asked(alloc: Global, nodes: &MemNodes, wanted: &str) -> Option<bool> {
+    let asks = asks_of(alloc, nodes)?;
+    Some(asks.as_str() == wanted)
+}
+
+/// Whether the client is served so. None is want of memory, as everywhere here.
+pub(crate) fn serves(
+    alloc: Global,
+    hub: &mut LocalHub,
+    own: &[NodeNo],
+    nodes: &mut MemNodes,
+    client: &Client<'_>,
+    wanted: &Wanted<'_>,
+) -> Option<bool> {
+    let mut link = link_of(alloc, client)?;
+    let ended = served(alloc, hub, own, nodes, &mut link);
+    let is_told = ended == wanted.ended && link.taken() == wanted.written;
+    let is_asked = are_asked(alloc, nodes, wanted.asks)?;
+    Some(is_told && is_asked)
+}
+
+/// Makes these requests, for which no node is asked.
+pub(crate) fn asked(alloc: Global, hub: &mut LocalHub, sends: &[u8]) -> Option<MemLink> {
+    let mut link = link_of(alloc, &plain(sends))?;
+    let mut nodes = MemNodes::new(alloc, Vec::new(alloc));
+    let _ended = served(alloc, hub, &[], &mut nodes, &mut link);
+    Some(link)
+}
+
+fn word_of(change: &Change) -> &'static str {
+    match change {
+        Change::Registered { .. } => "register ",
+        Change::Beaten { .. } => "beat ",
+        Change::Draining { .. } => "drain ",
+        Change::Removed { .. } => "remove ",
+        Change::Lapsed { .. } => "lapse ",
+        Change::Suspected { .. } => "suspect ",
+        Change::Queued { .. } => "queue ",
+        Change::Reserved { .. } => "reserve ",
+        Change::Bound { .. } => "bind ",
+        Change::Failed { .. } => "fail ",
+        Change::TimedOut { .. } => "time-out ",
+        Change::Cleared { .. } => "clear ",
+        Change::Taken { .. } => "take ",
+        Change::Touched { .. } => "touch ",
+        Change::Ended { .. } => "end ",
+        Change::Freed { .. } => "free ",
+    }
+}
+
+fn are(entries: &[Entry], words: &str) -> bool {
+    let mut rest = words.as_bytes();
+    for entry in entries {
+        match rest.strip_prefix(word_of(&entry.change).as_bytes()) {
+            Some(more) => rest = more,
+            None => return false,
+        }
+    }
+    rest.is_empty()
+}
+
+/// Whether the entries but for the first ones, so many, are these, each as one word.
+pub(crate) fn are_behind(journal: &[Entry], first: usize, words: &str) -> bool {
+    match journal.get(first..) {
+        Some(entries) => are(entries, words),
+        None => false,
+    }
+}

@@ -1,7 +1,0 @@
-use Rattle.std.proofs.Common.{[], ◌∷◌}
-use Rattle.turn_cell.specs.Cells.{view_of}
-use Rattle.turn_counter.specs.Counts.{next_of}
-use Rattle.turn_counter.proofs.adding.add.Given as goal
-
-abbrev pub ghosts-add_in : goal.ghosts-add_in
-ghosts-add_in g a = record { entries = next_of (view_of a.pass.now) ∷ [] }
