@@ -1,5 +1,5 @@
 use Rattle.turn_cell.specs.Cells.{view_of}
-use Rattle.trial_threads.proofs.Counting.{adds}
+use Rattle.trial_threads.proofs.CountLemmas.{adds}
 use Rattle.trial_threads.proofs.adding.add.Goals as goal
 
 pub returns-clause-added : goal.returns-clause-added

@@ -2,7 +2,7 @@ use Rattle.std.proofs.Common.{ap, sym, subst, ◌∙◌}
 use Rattle.turn_cell.specs.Cells.{view_of}
 use Rattle.trial_threads.specs.declared.counter.Counter.{Counter}
 use Rattle.trial_threads.specs.Counts.{Counts}
-use Rattle.trial_threads.proofs.Counting.{counts_on}
+use Rattle.trial_threads.proofs.CountLemmas.{counts_on}
 use Rattle.trial_threads.proofs.adding.add_in.Goals as goal
 
 pub leave-requires-clause-value : goal.leave-requires-clause-value

@@ -3,7 +3,7 @@ use Rattle.turn_cell.specs.declared.views.Ended.{Ended}
 use Rattle.turn_cell.specs.Cells.{view_of}
 use Rattle.turn_cell.specs.Steps.{ended_of}
 use Rattle.trial_threads.specs.Crew.{EachHas}
-use Rattle.trial_threads.proofs.Counting.{each_has_more}
+use Rattle.trial_threads.proofs.CountLemmas.{each_has_more}
 use Rattle.trial_threads.proofs.crew.rejoin.Goals as goal
 
 pub returns-clause-own : goal.returns-clause-own
