@@ -12,6 +12,10 @@ use Rattle.node_registry.specs.Table as of_node
 use Rattle.reservation.specs.Table as of_slot
 use Rattle.session_queue.specs.Table as of_request
 use Rattle.session_map.specs.Table as of_session
+use Rattle.node_registry.specs.declared.node_table.NodeTable.{NodeTable}
+use Rattle.reservation.specs.declared.slot_table.SlotTable.{SlotTable}
+use Rattle.session_queue.specs.declared.request_table.RequestTable.{RequestTable}
+use Rattle.session_map.specs.declared.live_map.LiveMap.{LiveMap}
 use Rattle.hub_tables.specs.declared.tables.HubTables.{HubTables}
 
 -- The tables stand for a history of a hub of this configuration, and so do the next numbers, the clock and what is
@@ -25,6 +29,15 @@ pub record Stands (c : HubConfig) (tables : HubTables) (H : List Entry) : Type 0
   pub counts_requests : tables.next_request ≡ next_request c H
   pub tells_clock : tables.clock.0 ≡ clock H
   pub searched : NothingFits H tables.searched_below tables.searched_from.0 nobody
+
+-- each table by itself stands for the history
+abbrev pub EachStands : List Entry → NodeTable → SlotTable → RequestTable → LiveMap → Type 0
+EachStands H nodes slots requests sessions =
+    of_node.Stands nodes H × of_slot.Stands slots H × of_request.Stands requests H × of_session.Stands sessions H
+
+-- these are the history's next numbers and its clock
+abbrev pub IsNext : HubConfig → List Entry → ℕ → ℕ → ℕ → Type 0
+IsNext c H node request at = (node ≡ next_node c H) × (request ≡ next_request c H) × (at ≡ clock H)
 
 -- the numbers of the next node and of the next request
 abbrev pub node_number : HubTables → ℕ

@@ -1,7 +1,9 @@
 //! The tables of a hub in one value, with the next numbers and the clock.
-ghost use Rattle.std.specs.Prelude.{◌≡◌, [], max};
+ghost use Rattle.std.specs.Prelude.{◌≡◌, List, [], max};
+ghost use Rattle.grid_types.specs.declared.config.HubConfig.{HubConfig};
+ghost use Rattle.grid_types.specs.declared.entry.Entry.{Entry};
 ghost use Rattle.grid_types.specs.History.{clock, next_node, next_request};
-ghost use Rattle.hub_tables.specs.Tables.{Forgets, Keeps, Stands, Tells, TellsOf, node_number, request_number};
+ghost use Rattle.hub_tables.specs.Tables.{EachStands, Forgets, IsNext, Keeps, Stands, Tells, TellsOf, node_number, request_number};
 
 mod changes;
 mod nodes;
@@ -45,6 +47,32 @@ impl HubTables {
             next_node: config.first_node,
             next_request: config.first_request,
             clock: Moment(0),
+            searched_below: 0,
+            searched_from: Moment(0),
+        }
+    }
+
+    /// Tables that each stand for a history, in one value with its next numbers and its clock: they stand for it together.
+    /// Nothing is remembered of a search. It takes no memory.
+    pub fn resume(
+        nodes: NodeTable,
+        slots: SlotTable,
+        requests: RequestTable,
+        sessions: LiveMap,
+        node: NodeNo,
+        request: ReqNo,
+        at: Moment,
+    ) -> HubTables
+        ensures { (c : HubConfig) (H : List Entry) → EachStands H nodes slots requests sessions → IsNext c H node request at.0 → Stands c result H }
+    {
+        HubTables {
+            nodes,
+            slots,
+            requests,
+            sessions,
+            next_node: node,
+            next_request: request,
+            clock: at,
             searched_below: 0,
             searched_from: Moment(0),
         }

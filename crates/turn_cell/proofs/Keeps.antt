@@ -16,10 +16,10 @@ use Rattle.grid_types.specs.declared.entry.Entry.{Entry}
 use Rattle.turn_cell.specs.declared.views.Look.{Look}
 use Rattle.turn_cell.specs.declared.views.View.{View}
 use Rattle.turn_cell.specs.declared.views.Stage.{Stage}
-use Rattle.turn_cell.specs.declared.views.Stage.TheVariants.{Gone, Idle, Waits, Serves, Gives, Joins}
+use Rattle.turn_cell.specs.declared.views.Stage.TheVariants.{Gone, Idle, Waits, Serves, Gives, Joins, Tells}
 use Rattle.turn_cell.specs.declared.views.Doing.{Doing}
-use Rattle.turn_cell.specs.Rule.{Track, ticket_of, Held, entries_of, AllBy, AllDiffer, number_of, Owns, IsLive, Knows, Sound, Kept, doing, starting}
-use Rattle.turn_cell.specs.Steps.{looked_once, looked, remarked, with_look, drawn, seeing, served, after, noted, raised, noting, ticket_in, split_off, newborn, IsUnused, ended_of, joined, gone, settled}
+use Rattle.turn_cell.specs.Rule.{GoesOnFrom, Track, ticket_of, Held, entries_of, AllBy, AllDiffer, number_of, Owns, IsLive, Knows, Sound, Kept, doing, starting}
+use Rattle.turn_cell.specs.Steps.{looked_once, looked, remarked, with_look, drawn, seeing, served, after, noted, raised, noting, ticket_in, split_off, newborn, IsUnused, ended_of, joined, gone, settled, telling, heard}
 use Rattle.turn_cell.proofs.Lists.{put, put_here, put_else, moved, moved_there, moved_else, from, from_there, from_else, from_rises, at_end, at_below, prefix_self, prefix_of_append, prefix_shorter, between, entries_mine, entries_else, differ_append}
 use Rattle.turn_cell.proofs.Lives.{seats_stay, owns_each, owns_append, apart_of, ended_exact, live_exact, unused_of, live_on, Follows, knows_on, held_set}
 
@@ -127,7 +127,6 @@ module _ {V M : Type 0} (stands : V → List Entry → Type 0) (mark : V → M) 
               rises = o.rises;
               level = o.level;
               fresh = o.fresh;
-              early = o.early;
               unused = o.unused;
             }
             (λ t low' high'. dite (ℕ_discrete t n)
@@ -194,7 +193,6 @@ module _ {V M : Type 0} (stands : V → List Entry → Type 0) (mark : V → M) 
               rises = o.rises;
               level = o.level;
               fresh = o.fresh;
-              early = o.early;
               unused = o.unused;
             }
             (held_set f s.views id me.0 w at (sym (ap ticket_of is)) r.held) (
@@ -245,7 +243,7 @@ module _ {V M : Type 0} (stands : V → List Entry → Type 0) (mark : V → M) 
                     (owns_each f id me.0.view.seen g id f.log me.0.view.number me.0.view.ended l.apart.0 (λ m mine _ (a : Owns f id me.0.view.seen m mine). (a.0, a.2, a.2)) l.ended),
                 l.apart,
               ),
-              subst (λ (k : ℕ). IsUnused (k + 1) (seeing f.log k me.0.view)) same (o.fresh (t + 1) not_given, unused_of origin first f id me.0.view (t + 1) not_given l),
+              subst (λ (k : ℕ). IsUnused (k + 1) (seeing f.log k me.0.view)) same (o.fresh (t + 1) (let a = o.ahead.0 in omega arith) not_given, unused_of origin first f id me.0.view (t + 1) not_given l),
             ),
           ),
         ),
@@ -279,7 +277,6 @@ module _ {V M : Type 0} (stands : V → List Entry → Type 0) (mark : V → M) 
               rises = o.rises;
               level = o.level;
               fresh = o.fresh;
-              early = o.early;
               unused = o.unused;
             }
             (held_set f s.views id me.0 w at (sym (ap ticket_of is)) r.held) (
@@ -352,8 +349,7 @@ module _ {V M : Type 0} (stands : V → List Entry → Type 0) (mark : V → M) 
               rises = from_rises f.length_at (f.serving + 1) (length log') o.rises
                   (λ c below. let top = o.level (f.serving + 1) (omega arith) in let up = o.rises c (f.serving + 1) (omega arith) in omega arith);
               level = λ c above. from_there f.length_at (f.serving + 1) (length log') c (omega arith);
-              fresh = λ m not_given. same_log m (λ e. let given : f.holder m ≡ id + 1 = ap f.holder e ∙ l.own.0 in absurd (omega arith)) ∙ o.fresh m not_given;
-              early = o.early;
+              fresh = λ m far not_given. same_log m (λ e. let given : f.holder m ≡ id + 1 = ap f.holder e ∙ l.own.0 in absurd (omega arith)) ∙ o.fresh m far not_given;
               unused = λ m far. o.unused m (let b = o.brief in omega arith);
             }
             (λ t' low' high'. let p = r.held t' (omega arith) high' in (
@@ -389,7 +385,7 @@ module _ {V M : Type 0} (stands : V → List Entry → Type 0) (mark : V → M) 
       let not_given : f.holder new ≡ 0 = o.unused new (omega arith) in
       let g : Track = record f { noted = 1; holder = put f.holder new (n + 1) } in
       let others : (j m : ℕ) → f.holder m ≡ j + 1 → (g.holder m ≡ j + 1) × (entries_of m g.log ≡ entries_of m f.log) = λ j m h. (put_else f.holder new (n + 1) m (λ e. let z = ap f.holder e in omega arith) ∙ h, refl) in
-      let none_of : entries_of new f.log ≡ [] = o.fresh new not_given in
+      let none_of : entries_of new f.log ≡ [] = o.fresh new (let a = o.ahead.0 in omega arith) not_given in
       record {
         track = g;
         sound = record {
@@ -404,8 +400,7 @@ module _ {V M : Type 0} (stands : V → List Entry → Type 0) (mark : V → M) 
           unmade = o.unmade;
           rises = o.rises;
           level = o.level;
-          fresh = λ m z. o.fresh m (sym (put_else f.holder new (n + 1) m (λ e. let here : put f.holder new (n + 1) m ≡ n + 1 = ap (put f.holder new (n + 1)) e ∙ put_here f.holder new (n + 1) in omega arith)) ∙ z);
-          early = λ m some low. put_else f.holder new (n + 1) m (λ e. let a = o.ahead.0 in omega arith) ∙ o.early m some low;
+          fresh = λ m far z. o.fresh m far (sym (put_else f.holder new (n + 1) m (λ e. let here : put f.holder new (n + 1) m ≡ n + 1 = ap (put f.holder new (n + 1)) e ∙ put_here f.holder new (n + 1) in omega arith)) ∙ z);
           unused = λ m far. put_else f.holder new (n + 1) m (λ e. omega arith) ∙ o.unused m (omega arith);
         };
         held = λ t' low' high'. let h = held_set f s.views id d (split_off d) at (same_ticket d.stage) r.held t' low' high' in
@@ -448,6 +443,7 @@ module _ {V M : Type 0} (stands : V → List Entry → Type 0) (mark : V → M) 
       same_ticket (Serves t k) = refl
       same_ticket (Gives t k entries) = refl
       same_ticket (Joins xs ys) = refl
+      same_ticket Tells = refl
 
   -- one view takes in another, which is spent
   pub merges : (id : ℕ) (d : D) (other : ℕ) (e : D) → d.stage ≡ Idle → e.stage ≡ Idle → Merges Rule id d other e (joined d e) gone
@@ -502,8 +498,7 @@ module _ {V M : Type 0} (stands : V → List Entry → Type 0) (mark : V → M) 
           unmade = o.unmade;
           rises = o.rises;
           level = o.level;
-          fresh = λ m z. o.fresh m (sym (moved_else f.holder (other + 1) (id + 1) m (λ h. let y = moved_there f.holder (other + 1) (id + 1) m h in omega arith)) ∙ z);
-          early = λ m some low. let z = o.early m some low in moved_else f.holder (other + 1) (id + 1) m (λ h. omega arith) ∙ z;
+          fresh = λ m far z. o.fresh m far (sym (moved_else f.holder (other + 1) (id + 1) m (λ h. let y = moved_there f.holder (other + 1) (id + 1) m h in omega arith)) ∙ z);
           unused = λ m far. let z = o.unused m far in moved_else f.holder (other + 1) (id + 1) m (λ h. omega arith) ∙ z;
         };
         held = held_set f (set s.views id (joined d e)) other e gone there (sym (ap ticket_of e_is)) (held_set f s.views id d (joined d e) at (sym (ap ticket_of d_is)) r.held);
@@ -518,7 +513,48 @@ module _ {V M : Type 0} (stands : V → List Entry → Type 0) (mark : V → M) 
       all_looks zero (suc b) n h p q = q (omega arith)
       all_looks (suc a) b n h p q = p (omega arith)
 
-  -- the pass learns that the lists that a join gave it begin what it has seen
+  -- a new seat has a note of what this one has seen
+  pub tells : (id : ℕ) (d : D) → d.stage ≡ Idle → Splits Rule id d d (telling d)
+  tells id d d_is s r at = let f = r.track in let known = knows s r id (d, []) Idle at d_is in let l = known.0 in
+      let stays : (j : ℕ) (x : D) → get_elem? (set s.views id d) j ≡ some x → Knows f j origin first x.stage x.view = seats_stay (λ j x. Knows f j origin first x.stage x.view) s.views id d (r.each_seat id d at) (λ j x _ e. r.each_seat j x e) in record {
+        track = f;
+        sound = r.sound;
+        held = λ t low high. let h = held_set f s.views id d d at refl r.held t low high in (h.0, at_longer (set s.views id d) (telling d ∷ []) (f.owner t) h.0 h.1, h.2);
+        each_seat = λ j e p. ⊎_elim (stays j e)
+            (λ (q : (j ≡ length (set s.views id d)) × (telling d ≡ e)). subst (λ (x : D). Knows f j origin first x.stage x.view) q.1 (l.begins, l.long, known.1))
+            (at_end (set s.views id d) (telling d) e j p);
+      }
+
+  -- one view takes in a note of what another has seen
+  pub hears : (id : ℕ) (d : D) (other : ℕ) (e : D) → d.stage ≡ Idle → e.stage ≡ Tells → Merges Rule id d other e (heard d e) gone
+  hears id d other e d_is e_is s r at apart there = let f = r.track in let o = r.sound in let v : View V = d.view in let w : View V = e.view in
+      let known = knows s r id (d, []) Idle at d_is in let note = knows s r other (e, []) Tells (sym (set_else s.views id other (heard d e) apart) ∙ there) e_is in
+      let lv = known.0 in
+      let live : (seen : List Entry) (since : ℕ) → IsPrefix v.seen seen → IsPrefix seen f.log → length seen ≡ f.length_at since → IsLive f id origin first (record v { seen = seen; since = since }) = λ seen since pv begins long. record {
+        marked = lv.marked;
+        begins = begins;
+        long = long;
+        looks = lv.looks;
+        own = (lv.own.0, between v.number v.seen seen f.log v.mine pv begins lv.own.1 lv.own.2, lv.own.2);
+        ended = owns_each f id v.seen f id seen v.number v.ended lv.apart.0 (λ m mine _ (a : Owns f id v.seen m mine). (a.0, between m v.seen seen f.log mine pv begins a.1 a.2, a.2)) lv.ended;
+        apart = lv.apart;
+      } in
+      let K : List Entry → ℕ → Type 0 = λ seen since. Knows f id origin first (Joins v.seen w.seen) (record v { seen = seen; since = since }) in
+      let when_later : ltb v.since w.since ≡ true → K w.seen w.since = λ b. let le : v.since < w.since = ltb-true v.since w.since b in
+      let pv : IsPrefix v.seen w.seen = prefix_shorter v.seen w.seen f.log lv.begins note.0 (let up = o.rises v.since w.since (omega arith) in let a = lv.long in let c = note.1 in omega arith) in
+      ((live w.seen w.since pv note.0 note.1, note.2), pv, prefix_self w.seen) in
+      let when_not : ltb v.since w.since ≡ false → K v.seen v.since = λ b. let le : w.since ≤ v.since = ltb-false v.since w.since b in
+      let pw : IsPrefix w.seen v.seen = prefix_shorter w.seen v.seen f.log note.0 lv.begins (let up = o.rises w.since v.since le in let a = lv.long in let c = note.1 in omega arith) in
+      ((live v.seen v.since (prefix_self v.seen) lv.begins lv.long, known.1), prefix_self v.seen, pw) in
+      record {
+        track = f;
+        sound = o;
+        held = held_set f (set s.views id (heard d e)) other e gone there (sym (ap ticket_of e_is)) (held_set f s.views id d (heard d e) at (sym (ap ticket_of d_is)) r.held);
+        each_seat = seats_stay (λ i x. Knows f i origin first x.stage x.view) (set s.views id (heard d e)) other gone tt
+            (λ i x _ h. seats_stay (λ i x. Knows f i origin first x.stage x.view) s.views id (heard d e) (chosen (ltb v.since w.since) K w.seen v.seen w.since v.since when_later when_not) (λ j y _ p. r.each_seat j y p) i x h);
+      }
+
+  -- the pass learns that the lists that a join or a note gave it begin what it has seen
   pub settles : (slots id : ℕ) (me : Sat) (xs ys : List Entry) → me.0.stage ≡ Joins xs ys → Allows Rule slots id me 1 (λ n. n) (settled (step slots 1 0 0 none) me)
   settles slots id me xs ys is s r _ at _ = let known = knows s r id me (Joins xs ys) at is in (
     doing Idle me.0.view,
@@ -533,8 +569,9 @@ module _ {V M : Type 0} (stands : V → List Entry → Type 0) (mark : V → M) 
     ),
   )
 
-  pub starts : stands origin [] → Rule (opening (first ∷ first ∷ []) (Some origin ∷ []) (starting origin first))
-  starts stand = let g : Track = record { log = []; ticket = first; serving = first; noted = 0; phase = 0; made = []; owner = λ _. 0; holder = put (λ _. 0) 0 1; length_at = λ _. 0 } in record {
+  -- a cell that goes on from a history
+  pub starts : (number : ℕ) (es : List Entry) → GoesOnFrom first number es → stands origin es → Rule (opening (first ∷ first ∷ []) (Some origin ∷ []) (starting origin first number))
+  starts number es goes stand = let g : Track = first_track number es in record {
     track = g;
     sound = record {
       words_are = refl;
@@ -542,23 +579,25 @@ module _ {V M : Type 0} (stands : V → List Entry → Type 0) (mark : V → M) 
       below = omega arith;
       brief = omega arith;
       out = λ z. absurd (omega arith);
-      home = λ _. (origin, refl, stand, refl);
+      home = λ _. (origin, refl, subst (stands origin) (sym (append-nil es)) stand, refl);
       at_turn = λ z. absurd (omega arith);
       at_rest = λ _. refl;
       unmade = λ _. refl;
-      rises = λ _ _ _. omega arith;
-      level = λ _ _. refl;
-      fresh = λ _ _. refl;
-      early = λ m some low. put_else (λ _. 0) 0 1 m some;
-      unused = λ m far. put_else (λ _. 0) 0 1 m (λ e. omega arith);
+      rises = from_rises (λ _. 0) (first + 1) (length es) (λ _ _ _. omega arith) (λ _ _. omega arith);
+      level = λ k above. from_there (λ _. 0) (first + 1) (length es) k (omega arith);
+      fresh = λ m far _. goes.later m far;
+      unused = λ m far. put_else (λ _. 0) number 1 m (λ e. let low = goes.low in omega arith);
     };
     held = λ t low high. absurd (omega arith);
-    each_seat = λ j d e. first_seat j d e;
+    each_seat = λ j d e. first_seat number es goes j d e;
   }
     where
-      first_seat : (j : ℕ) (d : D) → get_elem? (starting origin first ∷ []) j ≡ some d
-          → Knows (record { log = []; ticket = first; serving = first; noted = 0; phase = 0; made = []; owner = λ _. 0; holder = put (λ _. 0) 0 1; length_at = λ _. 0 }) j origin first d.stage d.view
-      first_seat zero d e = subst (λ (x : D). Knows (record { log = []; ticket = first; serving = first; noted = 0; phase = 0; made = []; owner = λ _. 0; holder = put (λ _. 0) 0 1; length_at = λ _. 0 }) 0 origin first x.stage x.view)
-          (some-injective (starting origin first) d e)
-          (record { marked = (refl, refl); begins = prefix_self []; long = refl; looks = λ h. absurd (omega arith); own = (put_here (λ _. 0) 0 1, refl, refl); ended = tt; apart = (tt, tt) }, omega arith)
-      first_seat (suc j) d e = absurd (some-ne-none d (sym e))
+      first_track : ℕ → List Entry → Track
+      first_track number es = record { log = es; ticket = first; serving = first; noted = 0; phase = 0; made = []; owner = λ _. 0; holder = put (λ _. 0) number 1; length_at = from (λ _. 0) (first + 1) (length es) }
+
+      first_seat : (number : ℕ) (es : List Entry) → GoesOnFrom first number es → (j : ℕ) (d : D) → get_elem? (starting origin first number ∷ []) j ≡ some d
+          → Knows (first_track number es) j origin first d.stage d.view
+      first_seat number es goes zero d e = subst (λ (x : D). Knows (first_track number es) 0 origin first x.stage x.view)
+          (some-injective (starting origin first number) d e)
+          (record { marked = (refl, refl); begins = (es, refl); long = sym (from_else (λ _. 0) (first + 1) (length es) 0 (λ le. omega arith)); looks = λ h. absurd (omega arith); own = (put_here (λ _. 0) number 1, refl, goes.own); ended = tt; apart = (tt, tt) }, omega arith)
+      first_seat number es goes (suc j) d e = absurd (some-ne-none d (sym e))

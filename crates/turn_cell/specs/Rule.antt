@@ -9,7 +9,7 @@ use Rattle.atomic_table.specs.Table.{State}
 use Rattle.turn_cell.specs.declared.views.Ended.{Ended}
 use Rattle.turn_cell.specs.declared.views.View.{View}
 use Rattle.turn_cell.specs.declared.views.Stage.{Stage}
-use Rattle.turn_cell.specs.declared.views.Stage.TheVariants.{Gone, Idle, Waits, Serves, Gives, Joins}
+use Rattle.turn_cell.specs.declared.views.Stage.TheVariants.{Gone, Idle, Waits, Serves, Gives, Joins, Tells}
 use Rattle.turn_cell.specs.declared.views.Doing.{Doing}
 
 -- the entries of the pass with this number, in order
@@ -100,6 +100,7 @@ module _ (f : Track) (seat : ℕ) where
     Knows (Serves t k) v = AtTurn t k v × (f.phase ≡ 1)
     Knows (Gives t k entries) v = AtTurn t k v × (f.phase ≡ 2) × (entries ≡ f.made) × AllBy v.number entries × (0 < k → entries ≡ [])
     Knows (Joins xs ys) v = Early v × IsPrefix xs v.seen × IsPrefix ys v.seen
+    Knows Tells v = IsPrefix v.seen f.log × (length v.seen ≡ f.length_at v.since) × (v.since ≤ f.serving + f.noted)
 
 module _ {V : Type 0} where
   abbrev pub doing : Stage → View V → Doing V
@@ -111,8 +112,8 @@ module _ {V : Type 0} where
 
   module _ {M : Type 0} (stands : V → List Entry → Type 0) (mark : V → M) (origin : V) (first : ℕ) where
     -- of the words, TICKET and SERVING, and of the slot. Tickets are drawn from `first` to below 2^62. The value at home has the
-    -- cell's mark, and stands for the history with the entries that are noted. A number that was not given has no entry, and each
-    -- number but 0 is 1 more than a ticket whose turn is over or has split
+    -- cell's mark, and stands for the history with the entries that are noted. A number above `first` that was not given has no
+    -- entry, and each number that was given, but the first pass's, is 1 more than a ticket whose turn is over or has split
     pub record Sound (f : Track) (words : List ℕ) (homes : List (maybe.Option (Option V))) : Type 0 where
       pub words_are : words ≡ f.ticket ∷ f.serving ∷ []
       pub ahead : (first ≤ f.serving) × (f.serving ≤ f.ticket)
@@ -125,8 +126,7 @@ module _ {V : Type 0} where
       pub unmade : f.phase ≢ 2 → f.made ≡ []
       pub rises : (j k : ℕ) → j ≤ k → f.length_at j ≤ f.length_at k
       pub level : (k : ℕ) → f.serving < k → f.length_at k ≡ length f.log
-      pub fresh : (n : ℕ) → f.holder n ≡ 0 → entries_of n f.log ≡ []
-      pub early : (n : ℕ) → n ≢ 0 → n ≤ first → f.holder n ≡ 0
+      pub fresh : (n : ℕ) → first < n → f.holder n ≡ 0 → entries_of n f.log ≡ []
       pub unused : (n : ℕ) → f.serving + f.noted < n → f.holder n ≡ 0
 
     pub record Kept (s : State (Option V) (Doing V)) : Type 0 where
@@ -135,9 +135,16 @@ module _ {V : Type 0} where
       pub held : Held track s.views
       pub each_seat : (j : ℕ) (d : Doing V) → get_elem? s.views j ≡ some d → Knows track j origin first d.stage d.view
 
-  -- the view of the first pass
-  abbrev pub opened : V → ℕ → View V
-  opened origin first = record { number = 0; seen = []; since = 0; mine = []; points = []; found = []; spent = 0; ended = []; origin = Some origin; first = first }
+  -- the view of the first pass, which has this number
+  abbrev pub opened : V → ℕ → ℕ → View V
+  opened origin first number = record { number = number; seen = []; since = 0; mine = []; points = []; found = []; spent = 0; ended = []; origin = Some origin; first = first }
 
-  abbrev pub starting : V → ℕ → Doing V
-  starting origin first = doing Idle (opened origin first)
+  abbrev pub starting : V → ℕ → ℕ → Doing V
+  starting origin first number = doing Idle (opened origin first number)
+
+-- The entries of a history that a cell goes on from: none is of the first pass's number, nor of a number that a ticket from
+-- the first on gives.
+pub record GoesOnFrom (first number : ℕ) (es : List Entry) : Type 0 where
+  pub low : number ≤ first
+  pub own : entries_of number es ≡ []
+  pub later : (n : ℕ) → first < n → entries_of n es ≡ []

@@ -13,7 +13,7 @@ impl<V: Stands> TableRule<Option<V>, Doing<V>, Start<V>> for Turns {
 
     ghost holds = { λ key. Kept V.stands V.mark key.origin.value key.first };
 
-    ghost first = { λ key. starting key.origin.value key.first };
+    ghost first = { λ key. starting key.origin.value key.first key.number };
 }
 
 /// What a pass acts by on the two words and the slot.
@@ -99,7 +99,29 @@ impl<V> Join<Doing<V>> for Glue {
     ghost spent = { gone };
 }
 
-/// A load of SERVING after a join, which tells that both lists begin what was kept.
+/// A note of what a pass has seen is split off. The pass stays as it is.
+pub(crate) struct Tell;
+
+impl<V> Split<Doing<V>> for Tell {
+    ghost use Rattle.turn_cell.specs.Steps.{telling};
+
+    ghost left = { λ d. d };
+
+    ghost right = { telling };
+}
+
+/// One pass takes in a note of what another has seen.
+pub(crate) struct Hear;
+
+impl<V> Join<Doing<V>> for Hear {
+    ghost use Rattle.turn_cell.specs.Steps.{heard, gone};
+
+    ghost both = { heard };
+
+    ghost spent = { gone };
+}
+
+/// A load of SERVING after a join or a note, which tells that both lists begin what was kept.
 pub(crate) struct Settle;
 
 impl<V> Play<Option<V>, Doing<V>> for Settle {

@@ -58,13 +58,16 @@ pub enum Stage {
     Gives(u64, u64, LinkedList<Entry>),
     /// A join gave it one of these two lists, and it has not looked since.
     Joins(LinkedList<Entry>, LinkedList<Entry>),
+    /// It is no pass but a note of what one has seen, which another takes in.
+    Tells,
 }
 
-/// What the rule is told of a cell: the value that it was made with, and its first ticket.
+/// What the rule is told of a cell: the value that it was made with, its first ticket, and the number of its first pass.
 #[derive(Drop)]
 pub struct Start<V> {
     pub origin: Snapshot<V>,
     pub first: u64,
+    pub number: u64,
 }
 
 /// The view of a seat at the cell's table.

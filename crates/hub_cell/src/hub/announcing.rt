@@ -10,7 +10,7 @@ ghost use Rattle.hub_core.specs.Serves.{MayCall};
 ghost use Rattle.hub_core.specs.CoreStands.{CoreKeeps, CoreTells};
 ghost use Rattle.map_view.specs.Maps.{published, pending};
 ghost use Rattle.hub_cell.specs.Published.{GridStands, KnowsChanges};
-ghost use Rattle.hub_cell.specs.Passes.{knows, config_of, IsOf, SameSpares};
+ghost use Rattle.hub_cell.specs.Passes.{knows, config_of, IsAlone, IsOf, SameSpares};
 ghost use Rattle.hub_cell.specs.Shared.{made_by, past, PassMay, SharedServes};
 ghost use Rattle.hub_cell.specs.Unanswered.{IsUnanswered, fault_of};
 ghost use Rattle.hub_cell.specs.Turning.{ServesThere, LacksThere};
@@ -167,6 +167,26 @@ impl SharedHub {
         requires may { PassMay (knows pass.old) (Q.call question) }
         ensures own { IsOf self.now pass.new }
         ensures spares { SameSpares pass.old pass.new }
+        ensures serves { IfOk result (λ a. SharedServes (config_of self.now) (knows pass.old) (Q.call question) (Q.at question) (Q.reply a) (knows pass.new)) }
+        ensures back { IfOk result (λ a. Q.back question a) }
+        ensures unanswered { IfErr result (IsUnanswered self.now (knows pass.old) question (Q.call question) (Q.lacks question) (knows pass.new)) }
+    {
+        let asked = self.announce_alone(rt, pass, question);
+        self.keep_up(pass);
+        asked
+    }
+
+    /// The same, but what becomes of a lender.
+    fn announce_alone<Q: Announces, R: Wait>(
+        &self,
+        rt: &R,
+        pass: &mut Pass,
+        question: Q,
+    ) -> Result<Q::Answer, Unanswered<Q>>
+        requires own { IsAlone self.now pass.old }
+        requires may { PassMay (knows pass.old) (Q.call question) }
+        ensures own { IsAlone self.now pass.new }
+        ensures spares { SameSpares pass.old pass.new × (pass.new.lender ≡ pass.old.lender) }
         ensures serves { IfOk result (λ a. SharedServes (config_of self.now) (knows pass.old) (Q.call question) (Q.at question) (Q.reply a) (knows pass.new)) }
         ensures back { IfOk result (λ a. Q.back question a) }
         ensures unanswered { IfErr result (IsUnanswered self.now (knows pass.old) question (Q.call question) (Q.lacks question) (knows pass.new)) }

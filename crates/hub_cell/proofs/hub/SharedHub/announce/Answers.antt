@@ -1,23 +1,22 @@
-use Rattle.turn_cell.specs.Cells.{view_of}
-use Rattle.hub_cell.specs.Passes.{knows, config_of}
-use Rattle.hub_cell.proofs.TurnLemmas.{may-turn, shared-turn, lacks-turn}
+use Rattle.std.proofs.Common.{sym, subst}
+use Rattle.std.specs.Prelude.{IfOk, IfErr}
+use Rattle.turn_cell.specs.declared.views.View.{View}
+use Rattle.hub_cell.specs.declared.grid.Grid.{Grid}
+use Rattle.hub_cell.specs.Passes.{knows, config_of, reader_of}
+use Rattle.hub_cell.specs.Shared.{SharedServes}
+use Rattle.hub_cell.specs.Unanswered.{IsUnanswered}
+use Rattle.hub_cell.proofs.LentLemmas.{lender-of}
 use Rattle.hub_cell.proofs.hub.SharedHub.announce.Goals as goal
 
-pub announce_there-requires-clause-may : goal.announce_there-requires-clause-may
-announce_there-requires-clause-may g c =
-    may-turn c.token_laws.ensures (config_of c.args.self.now) (knows c.args.pass.now) (view_of c.enter.new.pass) c.in-Ok.turn.ticket c.in-Ok.ensures.turn.1 c.in-Ok.ensures.seen.0 c.in-Ok.turn.value.core.value c.in-Ok.ensures.stands.0.core_stands
-    c.in-Ok.ensures.stands.1 c.args.pass.now.inner.exact c.in-Ok.ensures.seen.1 (g.Q.Announces.call c.args.question) c.requires.may
+pub keep_up-requires-clause-lender : goal.keep_up-requires-clause-lender
+keep_up-requires-clause-lender g c = lender-of c.args.self.now (reader_of c.args.pass.now) c.args.pass.now.lender c.announce_alone-asked.new.pass.lender c.announce_alone-asked.ensures.spares.1 c.requires.own.2
 
-pub returns-in-Ok-announce_there-clause-serves : goal.returns-in-Ok-announce_there-clause-serves
-returns-in-Ok-announce_there-clause-serves g c =
-    shared-turn c.token_laws.ensures (config_of c.args.self.now) (knows c.args.pass.now) (view_of c.enter.new.pass) c.in-Ok.turn.ticket c.in-Ok.ensures.turn.1 c.in-Ok.ensures.seen.0 c.in-Ok.turn.value.core.value c.in-Ok.ensures.stands.0.core_stands
-    c.in-Ok.ensures.stands.1 c.args.pass.now.inner.exact c.in-Ok.ensures.seen.1 (view_of c.announce_there.new.pass) (g.Q.Announces.call c.args.question) (g.Q.Announces.at c.args.question)
-    (g.Q.Announces.reply c.in-Ok-announce_there.answer) c.requires.may c.in-Ok-announce_there.ensures.serves
+pub returns-clause-serves : goal.returns-clause-serves
+returns-clause-serves g c =
+    subst (λ (v : View Grid). IfOk c.announce_alone-asked.result (λ a. SharedServes (config_of c.args.self.now) (knows c.args.pass.now) (g.Q.Announces.call c.args.question) (g.Q.Announces.at c.args.question) (g.Q.Announces.reply a) v)) (sym c.keep_up.ensures.same.0)
+    c.announce_alone-asked.ensures.serves
 
-pub returns-in-Err-announce_there-clause-unanswered : goal.returns-in-Err-announce_there-clause-unanswered
-returns-in-Err-announce_there-clause-unanswered g c = (
-  c.in-Err-announce_there.ensures.lacks.0,
-  lacks-turn c.token_laws.ensures (config_of c.args.self.now) (knows c.args.pass.now) (view_of c.enter.new.pass) c.in-Ok.turn.ticket c.in-Ok.ensures.turn.1 c.in-Ok.ensures.seen.0 c.in-Ok.turn.value.core.value c.in-Ok.ensures.stands.0.core_stands
-      c.in-Ok.ensures.stands.1 c.args.pass.now.inner.exact c.in-Ok.ensures.seen.1 (view_of c.announce_there.new.pass) (g.Q.Announces.call c.args.question) (g.Q.Announces.lacks c.args.question) c.requires.may
-      c.in-Err-announce_there.ensures.lacks.1,
-)
+pub returns-clause-unanswered : goal.returns-clause-unanswered
+returns-clause-unanswered g c =
+    subst (λ (v : View Grid). IfErr c.announce_alone-asked.result (IsUnanswered c.args.self.now (knows c.args.pass.now) c.args.question (g.Q.Announces.call c.args.question) (g.Q.Announces.lacks c.args.question) v)) (sym c.keep_up.ensures.same.0)
+    c.announce_alone-asked.ensures.unanswered
