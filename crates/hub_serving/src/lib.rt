@@ -1,5 +1,5 @@
 //! The driver of a connection over a shared hub: what the connection wants is done by a pass of the hub, a link, the link
-//! to the nodes and a clock.
+//! to the nodes and a clock. Either it is served to its end, or step by step beside others that share its thread.
 //!
 //! Choices that concern this crate alone:
 //!
@@ -8,7 +8,11 @@
 #![tactic(auto)]
 
 mod calls;
+mod seats;
 mod serving;
+mod stepping;
 
 pub use hub_conn::{ConnFault, End, Served};
+pub use seats::{Seat, round, seats_stay_seated};
 pub use serving::serve_shared;
+pub use stepping::{Act, Rest};

@@ -1,0 +1,149 @@
+//! One step of a connection that shares its thread with others: it does what it wants where that can be done now, and never waits.
+ghost use Rattle.std.specs.Prelude.{◌≡◌, ◌<◌, length};
+ghost use Rattle.grid_outside.specs.Told.{later_by};
+ghost use Rattle.hub_cell.specs.Passes.{IsOf};
+ghost use Rattle.hub_serving.specs.Outside.{Outside};
+ghost use Rattle.hub_serving.specs.Seats.{Acted, Sits, seen_by};
+ghost use Rattle.hub_serving.specs.SharedClock.{Remembers};
+
+use crate::calls::make;
+use grid_outside::{Clock, Line, NodeLine};
+use grid_types::LAST_MOMENT;
+use hub_cell::{Pass, SharedHub};
+use hub_conn::{Answer, ConnFault, Served, Talk, Want, calls_are_rightful, wants_come_in_order};
+use hub_links::{read_now, write_now};
+use std::alloc::Global;
+use std::snapshot::Snapshot;
+use std::sync::Wait;
+
+/// What a connection waits for.
+#[derive(Clone, Copy, Debug, PartialEq, Eq)]
+pub enum Rest {
+    /// Bytes, or the end of them.
+    Read,
+    /// That bytes can be written.
+    Write,
+    /// Its node.
+    Node,
+    /// A moment, in milliseconds.
+    Until(u64),
+}
+
+/// What a connection did.
+#[derive(Clone, Copy, Debug, PartialEq, Eq)]
+pub enum Act {
+    /// It did something, and may do more at once.
+    GoesOn,
+    /// It waits, and has done nothing.
+    Rests(Rest),
+    /// It is over.
+    Over(Result<Served, ConnFault>),
+}
+
+/// When a pause is over that began at the moment.
+fn due_of(moment: u64, ms: u64) -> u64
+    ensures { result ≡ later_by moment ms }
+{
+    moment.saturating_add(ms).min(LAST_MOMENT)
+}
+
+/// Does what the connection wants, where that can be done now. `moment` is the one that it was told last, and `last` the clock as
+/// it was then.
+pub(crate) fn advance<R: Wait, L: Line, N: NodeLine, C: Clock>(
+    rt: &R,
+    alloc: Global,
+    hub: &SharedHub,
+    pass: &mut Pass,
+    talk: &mut Talk,
+    buffer: &mut [u8],
+    line: &mut L,
+    nodes: &mut N,
+    clock: &mut C,
+    asking: &mut bool,
+    moment: &mut u64,
+    last: &mut Snapshot<C>,
+) -> Act
+    requires own { IsOf hub.now pass.old }
+    requires room { 0 < length buffer.old }
+    requires remembers { Remembers C.gives C.view clock.old moment.old last.old.value }
+    requires sits { (first : Outside N.State C) × Sits hub.now N.gives N.asks C.gives C.view
+        first talk.old nodes.old asking.old
+        (seen_by C.view pass.old (N.state nodes.old) last.old.value (L.view line.old)) }
+    ensures own { IsOf hub.now pass.new }
+    ensures remembers { Remembers C.gives C.view clock.new moment.new last.new.value }
+    ensures acted { Acted hub.now N.gives N.asks C.gives C.view result
+        clock.old talk.old nodes.old asking.old
+        (seen_by C.view pass.old (N.state nodes.old) last.old.value (L.view line.old))
+        clock.new talk.new nodes.new asking.new
+        (seen_by C.view pass.new (N.state nodes.new) last.new.value (L.view line.new)) }
+{
+    let asked = *asking;
+    match talk.next() {
+        Want::Read(most) => {
+            // For the proof alone: what is read stays within the limit.
+            wants_come_in_order();
+            match read_now(line, most, buffer) {
+                Some(answer) => {
+                    talk.feed(answer);
+                    *asking = false;
+                    Act::GoesOn
+                }
+                None => Act::Rests(Rest::Read),
+            }
+        }
+        Want::Write(bytes) => match write_now(line, bytes) {
+            Some(answer) => {
+                talk.feed(answer);
+                *asking = false;
+                Act::GoesOn
+            }
+            None => Act::Rests(Rest::Write),
+        },
+        Want::Begin => {
+            talk.feed(Answer::Begun);
+            *asking = false;
+            Act::GoesOn
+        }
+        Want::Hub => {
+            calls_are_rightful();
+            let call = talk.hub_call();
+            let at = clock.now();
+            let told = Snapshot::of(&*clock);
+            let answer = make(rt, hub, pass, call, at);
+            talk.feed(Answer::Hub(answer));
+            *moment = at.0;
+            *last = told;
+            *asking = false;
+            Act::GoesOn
+        }
+        Want::Node(address, request) => {
+            if !asked {
+                nodes.ask(alloc, &address, &request);
+                *asking = true;
+                return Act::GoesOn;
+            }
+            match nodes.came(alloc) {
+                Some(came) => {
+                    talk.feed(Answer::Node(came));
+                    *asking = false;
+                    Act::GoesOn
+                }
+                None => Act::Rests(Rest::Node),
+            }
+        }
+        Want::Pause(ms) => {
+            let due = due_of(*moment, ms);
+            let now = clock.now();
+            if now.0 < due {
+                return Act::Rests(Rest::Until(due));
+            }
+            let rested = Snapshot::of(&*clock);
+            talk.feed(Answer::Paused);
+            *moment = now.0;
+            *last = rested;
+            *asking = false;
+            Act::GoesOn
+        }
+        Want::Done(result) => Act::Over(result),
+    }
+}
