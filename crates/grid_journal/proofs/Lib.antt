@@ -4,3 +4,4 @@ pub mod EntryLemmas
 pub mod OutLemmas
 pub mod HeadLemmas
 pub mod MomentLemmas
+pub mod RowLemmas

@@ -1,0 +1,3 @@
+mod TicketLemmas
+mod ReservationLemmas
+mod ClosingLemmas
