@@ -8,3 +8,5 @@ mod ScriptOneLemmas
 mod BehindLemmas
 mod TalkOneLemmas
 mod BoundLemmas
+mod OneTalkLemmas
+mod LongerLemmas

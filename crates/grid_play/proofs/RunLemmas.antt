@@ -43,7 +43,7 @@ version_short [] version e = subst (λ (v : List ℕ). length v ≤ 32) (sym e) 
 version_short (sign ∷ text) version e =
     at_most (length version) 32 (and_parts (nat_le 1 (length version)) (nat_le (length version) 32) (and_parts _ _ e.2).0).1
 
-node_fits : (word slots : List ℕ) (node : PlayNode) → SaysNode word slots node → IsFit node
+pub node_fits : (word slots : List ℕ) (node : PlayNode) → SaysNode word slots node → IsFit node
 node_fits word slots node s = record {
   least = s.least;
   most = s.most;

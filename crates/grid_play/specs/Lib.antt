@@ -5,3 +5,4 @@ pub mod Ran
 pub mod Readings
 pub mod OneConversation
 pub mod Bounds
+pub mod Talks

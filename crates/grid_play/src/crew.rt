@@ -22,10 +22,10 @@ use std::alloc::Global;
 
 /// A hub, the nodes that have registered there, and their numbers.
 #[derive(Drop)]
-pub(crate) struct Crew {
-    pub(crate) hub: LocalHub,
-    pub(crate) nodes: LoopNodes,
-    pub(crate) numbers: Vec<NodeNo>,
+pub struct Crew {
+    pub hub: LocalHub,
+    pub nodes: LoopNodes,
+    pub numbers: Vec<NodeNo>,
 }
 
 fn push_text(alloc: Global, caps: &mut Caps, name: &str, value: &str) -> Result<(), NoMemory>
@@ -180,11 +180,7 @@ fn register_all(
 }
 
 /// A hub in which the nodes have registered, in their order and with the numbers from 1 on.
-pub(crate) fn crew_of(
-    alloc: Global,
-    config: HubConfig,
-    played: &[PlayNode],
-) -> Result<Crew, NoMemory>
+pub fn crew_of(alloc: Global, config: HubConfig, played: &[PlayNode]) -> Result<Crew, NoMemory>
     requires valid { IsValid config }
     requires fit { AllFit played.now }
     requires few { length played.now < 2 ^ 16 }

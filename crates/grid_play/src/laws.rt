@@ -2,9 +2,10 @@
 ghost use Rattle.play_words.specs.Words.{OnePlay};
 ghost use Rattle.grid_play.specs.Bounds.{SessionsAreBounded};
 ghost use Rattle.grid_play.specs.OneConversation.{OneConversation};
+ghost use Rattle.grid_play.specs.Talks.{FirstCrewsAscend, OneTalk, SaidCrewsFit, SaidNodesFit, TalksKeepNumbers, TalksStand};
 
 use caps_merge::{bodies_give_one_answer, registrations_give_one_answer};
-use http_frames::one_reading;
+use http_frames::{one_head, one_reading, refused_heads_stay, stays};
 use hub_conn::conversations_find_spent_last;
 use json_spans::{a_text_is_read_one_way, a_text_is_refused_one_way};
 use node_client::replies_say_one_thing;
@@ -42,3 +43,37 @@ pub fn sessions_are_bounded()
     calls_keep_the_newest_request();
     calls_keep_the_clock();
 }
+
+/// From wherever a hub, its nodes in memory and its clock stand, the bytes of a connection fix the conversation: where no step was out
+/// of memory, its end, the steps, what is written, and where they lead. So connections that are served one behind the other over one hub
+/// are a function of their bytes.
+pub fn one_talk()
+    ensures one { OneTalk }
+    ensures numbers { TalksKeepNumbers }
+    ensures crews { FirstCrewsAscend }
+{
+    // Laws of what lies below, which do nothing either.
+    a_text_is_read_one_way();
+    a_text_is_refused_one_way();
+    bodies_give_one_answer();
+    registrations_give_one_answer();
+    replies_say_one_thing();
+    one_reading();
+    conversations_find_spent_last();
+}
+
+/// A conversation that ended before its input did is that of longer bytes too: what stands behind its end changes nothing.
+pub fn talks_stand()
+    ensures { TalksStand }
+{
+    // Laws of what lies below, which do nothing either.
+    stays();
+    one_head();
+    refused_heads_stay();
+}
+
+/// A node that words say is one that a crew may have, and all nodes of a play are.
+pub fn said_nodes_fit()
+    ensures node { SaidNodesFit }
+    ensures crew { SaidCrewsFit }
+{}

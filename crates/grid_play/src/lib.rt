@@ -16,5 +16,6 @@ mod joined;
 mod laws;
 mod top;
 
-pub use laws::{one_conversation, sessions_are_bounded};
+pub use crew::{Crew, crew_of};
+pub use laws::{one_conversation, one_talk, said_nodes_fit, sessions_are_bounded, talks_stand};
 pub use top::run;

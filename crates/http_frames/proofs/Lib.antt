@@ -27,3 +27,4 @@ mod AlikeLemmas
 mod WaitLemmas
 mod CalmLemmas
 mod CalmLineLemmas
+mod FaultyLemmas

@@ -6,6 +6,7 @@ ghost use Rattle.std.specs.Prelude.{◌≡◌, ◌≤◌, length, take, drop};
 mod calm;
 mod chunks;
 mod faults;
+mod faulty;
 mod fields;
 mod frames;
 mod heads;
@@ -17,6 +18,7 @@ mod turns;
 mod writing;
 
 pub use crate::faults::fault_text;
+pub use crate::faulty::refused_heads_stay;
 pub use crate::frames::{
     Body, Frame, FrameLimits, Head, LIMITS, Parts, Step, expects_continue, next_request,
 };

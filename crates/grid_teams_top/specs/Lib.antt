@@ -1,0 +1,5 @@
+pub mod Apart
+pub mod Heads
+pub mod Play
+pub mod Blocks
+pub mod Refusals

@@ -1,0 +1,23 @@
+//! Teams apart from each other: blocks of bytes that are served for teams in memory, and connections for teams with shared hubs.
+//!
+//! Choices that concern this crate alone:
+//!
+//! - The head is read by a reader of its own, and the bytes are served from their first one on, so that what a hub answers is the
+//!   conversation about all of them.
+//! - A connection without an accepted head is answered without any hub.
+#![tactic(auto)]
+
+mod block;
+mod block_link;
+mod blocks;
+mod heads;
+mod laws;
+mod playing;
+mod plays;
+mod telling;
+
+pub use blocks::{serve_block, serve_blocks};
+pub use laws::{teams_are_apart, texts_are};
+pub use playing::{MOST_BLOCK_BYTES, PlayingTeam, start};
+pub use plays::TeamPlay;
+pub use telling::{NO_SUCH_TEAM, NOT_NAMED};
