@@ -1,0 +1,4 @@
+pub mod Driver
+pub mod Input
+pub mod Ran
+pub mod Servers

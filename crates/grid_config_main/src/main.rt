@@ -1,0 +1,112 @@
+//! A hub, a node, or a driver behind a hub, by a configuration on standard input.
+#![tactic(auto)]
+
+use grid_config::{
+    KeptInput, Mode, attach_config_main, attach_config_reason, config_main, config_reason,
+};
+use grid_console::{Asked, NoWords, ToldBind, ToldHub, ToldNodes, words};
+use grid_outside::StandardInput;
+use grid_sockets::{MachineClock, TcpDoor, TcpNodes};
+use grid_types::Text;
+use std::alloc::Global;
+use std::process::ExitCode;
+
+/// What lines on standard error begin with.
+const NAME: &str = "grid_config";
+
+/// How the program is called.
+const USAGE: &str = "\
+usage: grid_config hub|node|attach < FILE
+  hub      the hub
+  node     a node in memory
+  attach   a driver that already runs, behind a hub
+FILE is a configuration in TOML
+";
+
+/// Other words than one program's name.
+const OTHER_WORDS: u8 = 8;
+
+/// The text is no configuration.
+const FAULTY: u8 = 9;
+
+/// Out of memory.
+const NO_MEMORY: u8 = 5;
+
+type Input = KeptInput<StandardInput<HostRuntime>>;
+
+/// The one word; empty where it is not one.
+fn word(words: &[Text]) -> &str {
+    match words {
+        [word] => word.as_str(),
+        _ => "",
+    }
+}
+
+/// A door over TCP that says where it listens.
+fn door(rt: HostRuntime) -> ToldBind<HostRuntime, TcpDoor<HostRuntime>> {
+    ToldBind::new(rt, NAME, TcpDoor::new(rt, None))
+}
+
+fn run_attach(rt: HostRuntime, input: &mut Input) -> u8 {
+    let mut nodes = ToldNodes::new(rt, NAME, TcpNodes::new(rt), None);
+    let mut clock = MachineClock::new(rt);
+    attach_config_main(rt.alloc(), input, &mut nodes, &mut clock, u64::MAX)
+}
+
+/// Says what is wrong with the text. The status says that something is where this can't be written.
+fn explain(rt: HostRuntime, word: &str, input: &Input) {
+    let Some(text) = input.kept() else {
+        return;
+    };
+    let reason = match word {
+        "attach" => attach_config_reason(rt.alloc(), text),
+        "node" => config_reason(rt.alloc(), Mode::Node, text),
+        _ => config_reason(rt.alloc(), Mode::Hub, text),
+    };
+    if let Some(reason) = reason {
+        let _ = eprintln!(rt; "{NAME}: {reason}");
+    }
+}
+
+/// Says how the program ended, where that is no success.
+fn tell(rt: HostRuntime, status: u8) {
+    if status != 0 {
+        let _ = eprintln!(rt; "{NAME}: status {status}");
+    }
+    if status == OTHER_WORDS {
+        let _ = eprint!(rt; "{USAGE}");
+    }
+}
+
+fn main(rt: HostRuntime) -> ExitCode {
+    let alloc: Global = rt.alloc();
+    let status = match words(&rt) {
+        Ok(words) => {
+            let words = words.as_slice();
+            if let Some(asked) = Asked::of(words) {
+                asked.tell(&rt, NAME, USAGE);
+                return ExitCode::SUCCESS;
+            }
+            let mut input = KeptInput::new(alloc, StandardInput::new(rt));
+            let status = match word(words) {
+                "attach" => run_attach(rt, &mut input),
+                "node" => {
+                    let mut door = ToldHub::new(rt, NAME, door(rt));
+                    config_main(&rt, alloc, words, &mut input, &mut door)
+                }
+                _ => {
+                    let mut door = door(rt);
+                    config_main(&rt, alloc, words, &mut input, &mut door)
+                }
+            };
+            if status == FAULTY {
+                explain(rt, word(words), &input);
+            }
+            status
+        }
+        Err(NoWords::NotText) => OTHER_WORDS,
+        Err(NoWords::Memory) => NO_MEMORY,
+    };
+    tell(rt, status);
+    ExitCode::from(status)
+}
