@@ -21,7 +21,7 @@ use Rattle.node_client.specs.Start as starting
 use Rattle.node_client.specs.Start.{Start}
 use Rattle.conn_script.specs.Responses.{Response}
 use Rattle.conn_script.specs.OneCall as one
-use Rattle.conn_script.specs.OneCall.{OneCall, NodeCall, Registers}
+use Rattle.conn_script.specs.OneCall.{OneCall, NodeCall, Beats, Registers}
 use Rattle.conn_script.specs.DeleteSession as deleting
 use Rattle.conn_script.specs.DeleteSession.{AfterQuit, AfterEnd, AfterLookup, AsksWhere, DeleteSession}
 use Rattle.conn_script.specs.Relay as relaying
@@ -110,6 +110,11 @@ one_call call respond _ _ (one.call_spent at) = refl
 node_call : (call : ℕ → Call) (id : List ℕ) (steps : List Step) (response : Response) → NodeCall call id steps response → unpaused steps ≡ true
 node_call call id _ _ (one.no_number n) = refl
 node_call call id _ _ (one.asks_node {steps} {response} n names o) = one_call (call n) _ steps response o
+
+beats : (id body : List ℕ) (steps : List Step) (response : Response) → Beats id body steps response → unpaused steps ≡ true
+beats id body _ _ (one.no_path none) = refl
+beats id body _ _ (one.no_beat node f names gives) = refl
+beats id body _ _ (one.beats_node {steps} {response} node name names gives o) = one_call (Call.beat node name) _ steps response o
 
 registers : (body : List ℕ) (steps : List Step) (response : Response) → Registers body steps response → unpaused steps ≡ true
 registers body _ _ (one.no_registration f gives) = refl
@@ -219,7 +224,7 @@ module _ (spend : StartsSpendAll) where
   by_route (Ok routes.register) f steps response x = calm false steps (registers _ steps response x)
   by_route (Ok (routes.remove id)) f steps response x = calm false steps (node_call Call.remove id steps response x)
   by_route (Ok (routes.drain id)) f steps response x = calm false steps (node_call Call.drain id steps response x)
-  by_route (Ok (routes.beat id)) f steps response x = calm false steps (node_call Call.beat id steps response x)
+  by_route (Ok (routes.beat id)) f steps response x = calm false steps (beats id _ steps response x)
 
   pub behind_polls : PausesBehindPolls
   unfolding Script

@@ -10,6 +10,7 @@ use Rattle.grid_types.specs.Permitted.{is_well_sized}
 use Rattle.grid_types.specs.Calls.{Call, Reply}
 use Rattle.caps_merge.specs.declared.fault.CapsFault.{CapsFault}
 use Rattle.caps_merge.specs.declared.registering.fault.RegFault.{RegFault}
+use Rattle.caps_merge.specs.Beats.{BeatGives}
 use Rattle.caps_merge.specs.Merging.{BodyGives}
 use Rattle.caps_merge.specs.Registering.{RegistrationGives}
 use Rattle.router_core.specs.declared.routed.Routed.{Routed}
@@ -31,8 +32,8 @@ use Rattle.conn_script.specs.declared.wants.HubCall.{HubCall}
 use Rattle.conn_script.specs.declared.wants.HubCall.TheVariants as calls
 use Rattle.conn_script.specs.Asking.{IsOf}
 use Rattle.conn_script.specs.Responses.{Response, own, bytes_of}
-use Rattle.conn_script.specs.Messages.{no_such_node, no_such_session, node_response, caps_refusal, reg_refusal}
-use Rattle.conn_script.specs.OneCall.{OneCall, CallLacks, NamesNoNode, NodeCall, NodeCallLacks, no_number, asks_node, Registers, RegisterLacks, no_registration, asks_hub}
+use Rattle.conn_script.specs.Messages.{beat_refusal, no_such_node, no_such_session, node_response, caps_refusal, reg_refusal}
+use Rattle.conn_script.specs.OneCall.{OneCall, CallLacks, NamesNode, NamesNoNode, NodeCall, NodeCallLacks, no_number, asks_node, Beats, BeatsLack, no_path, no_beat, beats_node, Registers, RegisterLacks, no_registration, asks_hub}
 use Rattle.conn_script.specs.DeleteSession as ending
 use Rattle.conn_script.specs.DeleteSession.{DeleteSession, DeleteLacks}
 use Rattle.conn_script.specs.Relay as passing
@@ -45,7 +46,7 @@ use Rattle.conn_script.specs.Calling.{kind_asked, respond_of}
 use Rattle.conn_script.specs.Creating.{no_start}
 use Rattle.conn_script.specs.Turns.{Turns, Completes, Stops, responded}
 use Rattle.conn_script.specs.Running.{RunWants, RunFollows, RunStops, RunsOn}
-use Rattle.conn_script.specs.Routing.{FirstTurn, OrNone, none, at, node_call, IsNodeAsked, AsksNode, AsksToRegister, AsksToCreate, AsksToDelete, AsksToRelay}
+use Rattle.conn_script.specs.Routing.{FirstTurn, OrNone, none, at, node_call, IsNodeAsked, AsksNode, AsksToBeat, AsksToRegister, AsksToCreate, AsksToDelete, AsksToRelay}
 use Rattle.conn_script.proofs.TurnLemmas.{own_turns}
 
 -- ---- the first run of a script
@@ -68,8 +69,8 @@ call_first f C S close call a kind keeps right leads stops =
 node_kind : (a : Asked) (n : ℕ) → IsNodeAsked a → kind_of (node_call a n) ≡ kind_asked a
 node_kind asked.Remove n h = refl
 node_kind asked.Drain n h = refl
-node_kind asked.Beat n h = refl
 node_kind asked.Register n h = absurd h
+node_kind asked.Beat n h = absurd h
 node_kind asked.Clear n h = absurd h
 node_kind asked.Status n h = absurd h
 node_kind asked.Queue n h = absurd h
@@ -95,8 +96,8 @@ node_right asked.Queue n = refl
 node_respond : (a : Asked) → IsNodeAsked a → respond_of a ≡ node_response
 node_respond asked.Remove h = refl
 node_respond asked.Drain h = refl
-node_respond asked.Beat h = refl
 node_respond asked.Register h = absurd h
+node_respond asked.Beat h = absurd h
 node_respond asked.Clear h = absurd h
 node_respond asked.Status h = absurd h
 node_respond asked.Queue h = absurd h
@@ -115,6 +116,25 @@ pub no_node_asked : (a : Asked) (id : List ℕ) (close : Bool) (r : Result (List
     IfOk r (λ bytes. bytes ≡ bytes_of no_such_node close) → AsksNode a id (responded r) close
 no_node_asked a id close r h built f =
     own_turns (RunsOn f) (NodeCall (node_call a) id) (OrNone (NodeCallLacks (node_call a) id)) [] close r _ _ (no_number h) refl built
+
+-- ---- a beat
+
+pub beat_asked : (id body : List ℕ) (node : ℕ) (name : Option (List ℕ)) (call : HubCall) (close : Bool) → NamesNode id node → BeatGives body (Ok name) →
+    call_of call ≡ Call.beat node name → AsksToBeat id body (turn.Go (run.Calling (calling.Ask call asked.Beat)) false) close
+beat_asked id body node name call close names gives same f =
+    call_first f (Beats id body) (OrNone (BeatsLack id body)) close call asked.Beat (ap kind_of same) (ap gives_up same) (ap is_rightful same)
+    (λ more response p. beats_node node name names gives (subst (λ (c : Call). OneCall c node_response more response) same p))
+    (λ more p. at more (node, name, names, gives, subst (λ (c : Call). CallLacks c more) same p))
+
+pub beat_unnamed : (id body : List ℕ) (close : Bool) (r : Result (List ℕ) NoMemory) → NamesNoNode id →
+    IfOk r (λ bytes. bytes ≡ bytes_of no_such_node close) → AsksToBeat id body (responded r) close
+beat_unnamed id body close r unnamed built f =
+    own_turns (RunsOn f) (Beats id body) (OrNone (BeatsLack id body)) [] close r _ _ (no_path unnamed) refl built
+
+pub beat_wrong : (id body : List ℕ) (node : ℕ) (fault : RegFault) (close : Bool) (r : Result (List ℕ) NoMemory) → NamesNode id node → BeatGives body (Err fault) →
+    IfOk r (λ bytes. bytes ≡ bytes_of (beat_refusal fault) close) → AsksToBeat id body (responded r) close
+beat_wrong id body node fault close r names gives built f =
+    own_turns (RunsOn f) (Beats id body) (OrNone (BeatsLack id body)) [] close r _ _ (no_beat node fault names gives) refl built
 
 -- ---- a registration
 

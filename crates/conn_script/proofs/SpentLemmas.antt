@@ -30,7 +30,7 @@ use Rattle.conn_script.specs.Messages.{register_response, node_response, clear_r
 use Rattle.conn_script.specs.Begin as begin
 use Rattle.conn_script.specs.Begin.{AsksToEnd, Expires, Begins, Begun, ExpireLacks, BeginLacks, BegunLacks}
 use Rattle.conn_script.specs.OneCall as one
-use Rattle.conn_script.specs.OneCall.{OneCall, CallLacks, NodeCall, NodeCallLacks, Registers, RegisterLacks}
+use Rattle.conn_script.specs.OneCall.{OneCall, CallLacks, NodeCall, NodeCallLacks, Beats, BeatsLack, Registers, RegisterLacks}
 use Rattle.conn_script.specs.DeleteSession as deleting
 use Rattle.conn_script.specs.DeleteSession.{AfterQuit, AfterEnd, AfterLookup, AsksWhere, DeleteSession, FreesLast, QuitLacks, EndLacks, DeleteLacks, quit_response}
 use Rattle.conn_script.specs.Relay as relaying
@@ -165,6 +165,11 @@ call_lacks call _ (one.call_lacks at) = refl
 node_call : (call : ℕ → Call) (id : List ℕ) (steps : List Step) (response : Response) → NodeCall call id steps response → FindsSpent (is_last response) steps
 node_call call id _ _ (one.no_number n) = refl
 node_call call id _ _ (one.asks_node {steps} {response} n names o) = one_call (call n) node_response node_goes_on steps response o
+
+beats : (id body : List ℕ) (steps : List Step) (response : Response) → Beats id body steps response → FindsSpent (is_last response) steps
+beats id body _ _ (one.no_path none) = refl
+beats id body _ _ (one.no_beat node f names gives) = refl
+beats id body _ _ (one.beats_node {steps} {response} node name names gives o) = one_call (Call.beat node name) node_response node_goes_on steps response o
 
 registers : (body : List ℕ) (steps : List Step) (response : Response) → Registers body steps response → FindsSpent (is_last response) steps
 registers body _ _ (one.no_registration f gives) = refl
@@ -372,7 +377,7 @@ module _ (spend : StartsSpendAll) where
   by_route (Ok routes.register) f steps response x = registers _ steps response x
   by_route (Ok (routes.remove id)) f steps response x = node_call Call.remove id steps response x
   by_route (Ok (routes.drain id)) f steps response x = node_call Call.drain id steps response x
-  by_route (Ok (routes.beat id)) f steps response x = node_call Call.beat id steps response x
+  by_route (Ok (routes.beat id)) f steps response x = beats id _ steps response x
 
   pub in_script : (f : Request) (steps : List Step) (response : Response) → Script f steps response → FindsSpent (is_last response) steps
   unfolding Script
@@ -389,7 +394,7 @@ module _ (spend : StartsSpendAll) where
   step_lacks (Ok routes.register) f steps x = (false, call_lacks (Call.register x.0) steps x.2)
   step_lacks (Ok (routes.remove id)) f steps x = (false, call_lacks (Call.remove x.0) steps x.2)
   step_lacks (Ok (routes.drain id)) f steps x = (false, call_lacks (Call.drain x.0) steps x.2)
-  step_lacks (Ok (routes.beat id)) f steps x = (false, call_lacks (Call.beat x.0) steps x.2)
+  step_lacks (Ok (routes.beat id)) f steps x = (false, call_lacks (Call.beat x.0 x.1) steps x.4)
 
   pub in_lacks : (f : Request) (steps : List Step) → Lacks f steps → FindsSpentOrNot steps
   in_lacks f _ script.before_all = (false, refl)

@@ -227,7 +227,7 @@ awaits_freed (Some carrying.Freed) e = refl
 call_of_bind : (b : Binding) (call : Call) → kind_of call ≡ Kind.bind → Keeps (answers.Bind b) call → FitsBind b (places.to_call call)
 call_of_bind b (Call.bind r session caps) e keeps = keeps
 call_of_bind b (Call.register node) e keeps = absurd cc
-call_of_bind b (Call.beat node) e keeps = absurd cc
+call_of_bind b (Call.beat node name) e keeps = absurd cc
 call_of_bind b (Call.drain node) e keeps = absurd cc
 call_of_bind b (Call.remove node) e keeps = absurd cc
 call_of_bind b (Call.enqueue choices) e keeps = absurd cc
@@ -246,7 +246,7 @@ call_of_bind b Call.view e keeps = absurd cc
 call_of_fail : (call : Call) → kind_of call ≡ Kind.fail → IsFail (places.to_call call)
 call_of_fail (Call.fail r why) e = tt
 call_of_fail (Call.register node) e = absurd cc
-call_of_fail (Call.beat node) e = absurd cc
+call_of_fail (Call.beat node name) e = absurd cc
 call_of_fail (Call.drain node) e = absurd cc
 call_of_fail (Call.remove node) e = absurd cc
 call_of_fail (Call.enqueue choices) e = absurd cc
@@ -265,7 +265,7 @@ call_of_fail Call.view e = absurd cc
 call_of_freed : (call : Call) → kind_of call ≡ Kind.freed → IsFreed (places.to_call call)
 call_of_freed (Call.freed c) e = tt
 call_of_freed (Call.register node) e = absurd cc
-call_of_freed (Call.beat node) e = absurd cc
+call_of_freed (Call.beat node name) e = absurd cc
 call_of_freed (Call.drain node) e = absurd cc
 call_of_freed (Call.remove node) e = absurd cc
 call_of_freed (Call.enqueue choices) e = absurd cc

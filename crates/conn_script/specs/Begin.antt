@@ -24,7 +24,7 @@ pub data Expires : List Step → Type 0 where
 pub data Begins : List ℕ → List Step → Type 0 where
   swept : {more : List Step} (at : ℕ) (reply : Reply) → Expires more → Begins [] (Called Call.sweep at (Some reply) ∷ more)
   beaten : {nodes : List ℕ} {more : List Step} (node at : ℕ) (reply : Reply) → Begins nodes more →
-      Begins (node ∷ nodes) (Called (Call.beat node) at (Some reply) ∷ more)
+      Begins (node ∷ nodes) (Called (Call.beat node None) at (Some reply) ∷ more)
 
 -- what goes before a request: these steps for the driver's own nodes, or none where it has none
 abbrev pub Begun : Option (List ℕ) → List Step → Type 0
@@ -43,9 +43,9 @@ pub data ExpireLacks : List Step → Type 0 where
 pub data BeginLacks : List ℕ → List Step → Type 0 where
   sweep_lacks : (at : ℕ) → BeginLacks [] (Called Call.sweep at None ∷ [])
   behind_sweep : {more : List Step} (at : ℕ) (reply : Reply) → ExpireLacks more → BeginLacks [] (Called Call.sweep at (Some reply) ∷ more)
-  beat_lacks : {nodes : List ℕ} (node at : ℕ) → BeginLacks (node ∷ nodes) (Called (Call.beat node) at None ∷ [])
+  beat_lacks : {nodes : List ℕ} (node at : ℕ) → BeginLacks (node ∷ nodes) (Called (Call.beat node None) at None ∷ [])
   behind_beat : {nodes : List ℕ} {more : List Step} (node at : ℕ) (reply : Reply) → BeginLacks nodes more →
-      BeginLacks (node ∷ nodes) (Called (Call.beat node) at (Some reply) ∷ more)
+      BeginLacks (node ∷ nodes) (Called (Call.beat node None) at (Some reply) ∷ more)
 
 abbrev pub BegunLacks : Option (List ℕ) → List Step → Type 0
 BegunLacks None steps = ⊥

@@ -77,14 +77,18 @@ field_word field.Slots = codes "slots"
 field_word field.Count = codes "count"
 field_word field.Stereotype = codes "stereotype"
 
-abbrev pub reg_fault_text : RegFault → List ℕ
-reg_fault_text (reg.NotJson f) = json_fault_text f
-reg_fault_text (reg.BadField f) = codes "registration: " ++ (field_word f ++ codes " is refused")
-reg_fault_text (reg.TooLarge bytes) = codes "registration takes " ++ (decimal bytes ++ codes " bytes")
-reg_fault_text reg.Memory = []
+-- of a body of this kind, a registration or a beat
+abbrev pub reg_fault_text : List ℕ → RegFault → List ℕ
+reg_fault_text kind (reg.NotJson f) = json_fault_text f
+reg_fault_text kind (reg.BadField f) = kind ++ (codes ": " ++ (field_word f ++ codes " is refused"))
+reg_fault_text kind (reg.TooLarge bytes) = kind ++ (codes " takes " ++ (decimal bytes ++ codes " bytes"))
+reg_fault_text kind reg.Memory = []
 
 abbrev pub reg_refusal : RegFault → Response
-reg_refusal fault = failure code.InvalidArgument (reg_fault_text fault)
+reg_refusal fault = failure code.InvalidArgument (reg_fault_text (codes "registration") fault)
+
+abbrev pub beat_refusal : RegFault → Response
+beat_refusal fault = failure code.InvalidArgument (reg_fault_text (codes "beat") fault)
 
 -- ---- a reply of the hub that ends its script
 

@@ -3,10 +3,11 @@ use Rattle.std.specs.Prelude.{◌≡◌, ◌≢◌, ℕ, ◌<◌, ◌^◌, List,
 use Rattle.grid_types.specs.declared.capabilities.Registration.{Registration}
 use Rattle.grid_types.specs.Calls.{Call, Reply}
 use Rattle.caps_merge.specs.declared.registering.fault.RegFault.{RegFault}
+use Rattle.caps_merge.specs.Beats.{BeatGives}
 use Rattle.caps_merge.specs.Registering.{RegistrationGives}
 use Rattle.node_client.specs.Steps.{Step, Called, Spent}
 use Rattle.conn_script.specs.Responses.{Response, hub_spent}
-use Rattle.conn_script.specs.Messages.{no_such_node, node_response, reg_refusal, register_response}
+use Rattle.conn_script.specs.Messages.{beat_refusal, no_such_node, node_response, reg_refusal, register_response}
 
 -- one call, and the response that its reply calls for
 pub data OneCall (call : Call) (respond : Reply → Option Response) : List Step → Response → Type 0 where
@@ -25,7 +26,7 @@ NamesNode id n = (n < 2 ^ 32) × (id ≡ decimal n)
 abbrev pub NamesNoNode : List ℕ → Type 0
 NamesNoNode id = (n : ℕ) → n < 2 ^ 32 → id ≢ decimal n
 
--- a removal, a drain or a beat of the node that the path names; where it names none, no call is made
+-- a removal or a drain of the node that the path names; where it names none, no call is made
 pub data NodeCall (call : ℕ → Call) (id : List ℕ) : List Step → Response → Type 0 where
   no_number : NamesNoNode id → NodeCall call id [] no_such_node
   asks_node : {steps : List Step} {response : Response} (n : ℕ) → NamesNode id n → OneCall (call n) node_response steps response →
@@ -33,6 +34,21 @@ pub data NodeCall (call : ℕ → Call) (id : List ℕ) : List Step → Response
 
 abbrev pub NodeCallLacks : (ℕ → Call) → List ℕ → List Step → Type 0
 NodeCallLacks call id steps = (n : ℕ) × NamesNode id n × CallLacks (call n) steps
+
+-- a beat of the node that the path names, under the name that the body tells, if it tells one; where
+-- the path names no node, and then where the body is refused, no call is made
+pub data Beats (id body : List ℕ) : List Step → Response → Type 0 where
+  no_path : NamesNoNode id → Beats id body [] no_such_node
+  no_beat : (node : ℕ) (fault : RegFault) → NamesNode id node → BeatGives body (Err fault) →
+      Beats id body [] (beat_refusal fault)
+  beats_node : {steps : List Step} {response : Response} (node : ℕ) (name : Option (List ℕ)) →
+      NamesNode id node → BeatGives body (Ok name) →
+      OneCall (Call.beat node name) node_response steps response → Beats id body steps response
+
+abbrev pub BeatsLack : List ℕ → List ℕ → List Step → Type 0
+BeatsLack id body steps =
+    (node : ℕ) × (name : Option (List ℕ)) × NamesNode id node × BeatGives body (Ok name)
+    × CallLacks (Call.beat node name) steps
 
 -- a registration
 pub data Registers (body : List ℕ) : List Step → Response → Type 0 where

@@ -7,12 +7,13 @@ use Rattle.caps_merge.specs.declared.fault.CapsFault.TheVariants as caps
 use Rattle.caps_merge.specs.declared.registering.fault.RegFault.{RegFault}
 use Rattle.caps_merge.specs.declared.registering.fault.RegFault.TheVariants as reg
 use Rattle.caps_merge.specs.Merging.{BodyGives}
+use Rattle.caps_merge.specs.Beats.{BeatGives}
 use Rattle.caps_merge.specs.Registering.{RegistrationGives}
 use Rattle.node_client.specs.Steps.{Step}
 use Rattle.conn_script.specs.declared.calling.Asked.{Asked}
 use Rattle.conn_script.specs.declared.calling.Asked.TheVariants as asked
 use Rattle.conn_script.specs.declared.turn.Turn.{Turn}
-use Rattle.conn_script.specs.OneCall.{NodeCall, NodeCallLacks, Registers, RegisterLacks}
+use Rattle.conn_script.specs.OneCall.{NamesNode, NodeCall, NodeCallLacks, Beats, BeatsLack, Registers, RegisterLacks}
 use Rattle.conn_script.specs.DeleteSession.{DeleteSession, DeleteLacks}
 use Rattle.conn_script.specs.Relay.{Relay, RelayLacks, relayed}
 use Rattle.conn_script.specs.NewSession.{NewSession, EnqueueLacks}
@@ -29,20 +30,22 @@ pub data OrNone (stops : Stops) : List Step → Type 0 where
   none : OrNone stops []
   at : (steps : List Step) → stops steps → OrNone stops steps
 
--- the call of a removal, a drain or a beat
+-- the call of a removal or a drain
 abbrev pub node_call : Asked → ℕ → Call
 node_call asked.Remove node = Call.remove node
-node_call asked.Drain node = Call.drain node
-node_call a node = Call.beat node
+node_call a node = Call.drain node
 
 abbrev pub IsNodeAsked : Asked → Type 0
 IsNodeAsked asked.Remove = Unit {0}
 IsNodeAsked asked.Drain = Unit {0}
-IsNodeAsked asked.Beat = Unit {0}
 IsNodeAsked a = ⊥
 
 abbrev pub AsksNode : Asked → List ℕ → Turn → Bool → Type 0
 AsksNode a id turn close = (f : Request) → Turns (RunsOn f) (NodeCall (node_call a) id) (OrNone (NodeCallLacks (node_call a) id)) [] close turn
+
+abbrev pub AsksToBeat : List ℕ → List ℕ → Turn → Bool → Type 0
+AsksToBeat id body turn close =
+    (f : Request) → Turns (RunsOn f) (Beats id body) (OrNone (BeatsLack id body)) [] close turn
 
 abbrev pub AsksToRegister : List ℕ → Turn → Bool → Type 0
 AsksToRegister body turn close = (f : Request) → Turns (RunsOn f) (Registers body) (OrNone (RegisterLacks body)) [] close turn
@@ -61,6 +64,12 @@ AsksToRelay id target turn close =
 abbrev pub IsRegistrationRefused : RegFault → Turn → Bool → Type 0
 IsRegistrationRefused fault turn close =
     (body : List ℕ) → (fault ≢ reg.Memory → RegistrationGives body (Err fault)) → AsksToRegister body turn close
+
+-- the same of a beat's body, behind whatever path names a node
+abbrev pub IsBeatRefused : RegFault → Turn → Bool → Type 0
+IsBeatRefused fault turn close =
+    (id body : List ℕ) (node : ℕ) → NamesNode id node →
+    (fault ≢ reg.Memory → BeatGives body (Err fault)) → AsksToBeat id body turn close
 
 abbrev pub AreCapabilitiesRefused : CapsFault → Turn → Bool → Type 0
 AreCapabilitiesRefused fault turn close =

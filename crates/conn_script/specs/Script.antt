@@ -9,7 +9,7 @@ use Rattle.router_core.specs.Routes.{Route, new_session, delete_session, relay, 
 use Rattle.node_client.specs.Steps.{Step}
 use Rattle.conn_script.specs.Responses.{Response}
 use Rattle.conn_script.specs.Messages.{unknown_command, unknown_method, status_response, queue_response, clear_response}
-use Rattle.conn_script.specs.OneCall.{OneCall, CallLacks, NodeCall, NodeCallLacks, Registers, RegisterLacks}
+use Rattle.conn_script.specs.OneCall.{OneCall, CallLacks, NodeCall, NodeCallLacks, Beats, BeatsLack, Registers, RegisterLacks}
 use Rattle.conn_script.specs.DeleteSession.{DeleteSession, DeleteLacks}
 use Rattle.conn_script.specs.Relay.{Relay, RelayLacks, relayed}
 use Rattle.conn_script.specs.NewSession.{NewSession, EnqueueLacks}
@@ -17,50 +17,54 @@ use Rattle.conn_script.specs.Undo.{Undoes}
 
 -- the request's body, its chunks joined
 abbrev pub body_of : Request → List ℕ
-body_of f = concat f.1
+body_of request = concat request.1
 
 -- the steps and the response, by the route
 abbrev pub ByRoute : Result Route RouteFault → Request → List Step → Response → Type 0
-ByRoute (Err fault.UnknownCommand) f steps response = (steps ≡ []) × (response ≡ unknown_command)
-ByRoute (Err fault.UnknownMethod) f steps response = (steps ≡ []) × (response ≡ unknown_method)
-ByRoute (Err fault.Memory) f steps response = ⊥
-ByRoute (Ok new_session) f steps response = NewSession (body_of f) steps response
-ByRoute (Ok (delete_session id)) f steps response = DeleteSession id steps response
-ByRoute (Ok (relay id target)) f steps response = Relay (relayed f target) id steps response
-ByRoute (Ok status) f steps response = OneCall Call.view status_response steps response
-ByRoute (Ok queue) f steps response = OneCall Call.view queue_response steps response
-ByRoute (Ok clear_queue) f steps response = OneCall Call.clear clear_response steps response
-ByRoute (Ok register) f steps response = Registers (body_of f) steps response
-ByRoute (Ok (remove id)) f steps response = NodeCall Call.remove id steps response
-ByRoute (Ok (drain id)) f steps response = NodeCall Call.drain id steps response
-ByRoute (Ok (beat id)) f steps response = NodeCall Call.beat id steps response
+ByRoute (Err fault.UnknownCommand) request steps response =
+    (steps ≡ []) × (response ≡ unknown_command)
+ByRoute (Err fault.UnknownMethod) request steps response =
+    (steps ≡ []) × (response ≡ unknown_method)
+ByRoute (Err fault.Memory) request steps response = ⊥
+ByRoute (Ok new_session) request steps response = NewSession (body_of request) steps response
+ByRoute (Ok (delete_session id)) request steps response = DeleteSession id steps response
+ByRoute (Ok (relay id target)) request steps response =
+    Relay (relayed request target) id steps response
+ByRoute (Ok status) request steps response = OneCall Call.view status_response steps response
+ByRoute (Ok queue) request steps response = OneCall Call.view queue_response steps response
+ByRoute (Ok clear_queue) request steps response = OneCall Call.clear clear_response steps response
+ByRoute (Ok register) request steps response = Registers (body_of request) steps response
+ByRoute (Ok (remove id)) request steps response = NodeCall Call.remove id steps response
+ByRoute (Ok (drain id)) request steps response = NodeCall Call.drain id steps response
+ByRoute (Ok (beat id)) request steps response = Beats id (body_of request) steps response
 
 abbrev pub route : Request → Result Route RouteFault
-route f = route_of f.0.method f.0.target
+route request = route_of request.0.method request.0.target
 
 -- the steps of a request, and its response
 unfoldable pub Script : Request → List Step → Response → Type 0
-Script f steps response = ByRoute (route f) f steps response
+Script request steps response = ByRoute (route request) request steps response
 
 -- ---- out of memory after which a script does not go on
 
 -- at a step, by the route
 abbrev pub StepLacks : Result Route RouteFault → Request → List Step → Type 0
-StepLacks (Err fault) f steps = ⊥
-StepLacks (Ok new_session) f steps = EnqueueLacks (body_of f) steps
-StepLacks (Ok (delete_session id)) f steps = DeleteLacks id steps
-StepLacks (Ok (relay id target)) f steps = RelayLacks (relayed f target) id steps
-StepLacks (Ok status) f steps = CallLacks Call.view steps
-StepLacks (Ok queue) f steps = CallLacks Call.view steps
-StepLacks (Ok clear_queue) f steps = CallLacks Call.clear steps
-StepLacks (Ok register) f steps = RegisterLacks (body_of f) steps
-StepLacks (Ok (remove id)) f steps = NodeCallLacks Call.remove id steps
-StepLacks (Ok (drain id)) f steps = NodeCallLacks Call.drain id steps
-StepLacks (Ok (beat id)) f steps = NodeCallLacks Call.beat id steps
+StepLacks (Err fault) request steps = ⊥
+StepLacks (Ok new_session) request steps = EnqueueLacks (body_of request) steps
+StepLacks (Ok (delete_session id)) request steps = DeleteLacks id steps
+StepLacks (Ok (relay id target)) request steps = RelayLacks (relayed request target) id steps
+StepLacks (Ok status) request steps = CallLacks Call.view steps
+StepLacks (Ok queue) request steps = CallLacks Call.view steps
+StepLacks (Ok clear_queue) request steps = CallLacks Call.clear steps
+StepLacks (Ok register) request steps = RegisterLacks (body_of request) steps
+StepLacks (Ok (remove id)) request steps = NodeCallLacks Call.remove id steps
+StepLacks (Ok (drain id)) request steps = NodeCallLacks Call.drain id steps
+StepLacks (Ok (beat id)) request steps = BeatsLack id (body_of request) steps
 
 -- The steps of a request that ended out of memory: before its first step, at a step, or behind all, where its response
 -- could not be built, and what that calls for was done. No token is left.
-pub data Lacks (f : Request) : List Step → Type 0 where
-  before_all : Lacks f []
-  at_step : {steps : List Step} → StepLacks (route f) f steps → Lacks f steps
-  behind_all : (steps undone : List Step) (response : Response) → Script f steps response → Undoes response undone → Lacks f (steps ++ undone)
+pub data Lacks (request : Request) : List Step → Type 0 where
+  before_all : Lacks request []
+  at_step : {steps : List Step} → StepLacks (route request) request steps → Lacks request steps
+  behind_all : (steps undone : List Step) (response : Response) → Script request steps response →
+      Undoes response undone → Lacks request (steps ++ undone)

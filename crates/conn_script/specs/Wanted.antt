@@ -30,7 +30,8 @@ use Rattle.conn_script.specs.Begin.{Begun}
 -- a call as the definitions have it
 abbrev pub call_of : HubCall → Call
 call_of (calls.Register node) = Call.register node
-call_of (calls.Beat node) = Call.beat node
+call_of (calls.Beat node) = Call.beat node None
+call_of (calls.BeatAs node name) = Call.beat node (Some name)
 call_of (calls.Drain node) = Call.drain node
 call_of (calls.Remove node) = Call.remove node
 call_of (calls.Enqueue choices) = Call.enqueue choices
@@ -56,7 +57,7 @@ pub data Kind : Type 0 where
 
 abbrev pub kind_of : Call → Kind
 kind_of (Call.register node) = Kind.register
-kind_of (Call.beat node) = Kind.beat
+kind_of (Call.beat node name) = Kind.beat
 kind_of (Call.drain node) = Kind.drain
 kind_of (Call.remove node) = Kind.remove
 kind_of (Call.enqueue choices) = Kind.enqueue

@@ -43,7 +43,8 @@ fn response_to(
     close: bool,
 ) -> Result<Bytes, NoMemory>
     requires { FitsKind answer.now (kind_asked asked) }
-    ensures { IfOk result (λ bytes. (is_spent answer.now ≡ false) → Responds (reply_of answer.now) (respond_of asked) bytes close) }
+    ensures { IfOk result (λ bytes. (is_spent answer.now ≡ false) →
+        Responds (reply_of answer.now) (respond_of asked) bytes close) }
 {
     match answer {
         HubAnswer::Register(answer) => registered(alloc, answer, close),
@@ -91,7 +92,8 @@ fn viewed(
     close: bool,
 ) -> Result<Bytes, NoMemory>
     requires { kind_asked asked ≡ Kind.view }
-    ensures { IfOk result (λ bytes. Responds (viewed_reply view.now) (respond_of asked) bytes close) }
+    ensures { IfOk result (λ bytes. Responds (viewed_reply view.now) (respond_of asked) bytes
+        close) }
 {
     let Ok(view) = view else {
         return Err(NoMemory);

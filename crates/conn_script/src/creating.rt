@@ -169,7 +169,8 @@ pub fn polls_again(ticket: Ticket) -> Turn
 pub fn start_answered(alloc: Global, ticket: Ticket, carry: Carry, answer: HubAnswer) -> Turn
     requires { FitsKind answer (carry_awaits carry) }
     ensures turns { StartTurns ticket carry answer result }
-    ensures ready { IsReady result (tokens_after answer (carry_tokens carry ++ of_ticket ticket ∷ [])) }
+    ensures ready { IsReady result (tokens_after answer
+        (carry_tokens carry ++ of_ticket ticket ∷ [])) }
     ensures less { StartAnswersLess carry answer result }
 {
     match answer {
@@ -183,7 +184,8 @@ fn freed_or_spent(alloc: Global, ticket: Ticket, carry: Carry, answer: &HubAnswe
     requires fits { FitsKind answer.now (carry_awaits carry) }
     requires other { IsOther answer.now }
     ensures turns { StartTurns ticket carry answer.now result }
-    ensures ready { IsReady result (tokens_after answer.now (carry_tokens carry ++ of_ticket ticket ∷ [])) }
+    ensures ready { IsReady result (tokens_after answer.now
+        (carry_tokens carry ++ of_ticket ticket ∷ [])) }
     ensures less { StartAnswersLess carry answer.now result }
 {
     match answer {
@@ -197,7 +199,8 @@ fn freed_or_spent(alloc: Global, ticket: Ticket, carry: Carry, answer: &HubAnswe
 pub fn start_told(ticket: Ticket, mut carry: Carry, answer: CarryAnswer) -> Turn
     requires { awaited carry ≡ Some (kind_of answer) }
     ensures turns { StartMoves ticket carry answer result }
-    ensures ready { IsReady result (told_tokens answer ++ carry_tokens carry ++ of_ticket ticket ∷ []) }
+    ensures ready { IsReady result (told_tokens answer ++ carry_tokens carry ++ of_ticket
+        ticket ∷ []) }
     ensures less { StartsLess carry result }
 {
     carry.feed(answer);

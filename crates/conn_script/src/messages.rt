@@ -1,6 +1,7 @@
 //! Errors in words.
 ghost use Rattle.std.specs.Prelude.{◌≡◌, IfOk, string_bytes};
 ghost use Rattle.caps_merge.specs.declared.fault.CapsFault.TheVariants as caps;
+ghost use Rattle.caps_merge.specs.declared.registering.fault.RegFault.TheVariants as reg;
 ghost use Rattle.conn_script.specs.Messages.{list_name, json_fault_text, caps_fault_text, field_word, reg_fault_text, why_text};
 
 use caps_merge::{CapsFault, RegFault, RegField};
@@ -93,20 +94,31 @@ fn field_word(field: RegField) -> &'static str
     }
 }
 
-/// Why a registration is refused.
-pub fn reg_fault_text(alloc: Global, fault: &RegFault) -> Result<String, NoMemory>
-    ensures { IfOk result (λ s. string_bytes s ≡ reg_fault_text fault.now) }
+fn bad_field_text(alloc: Global, kind: &str, field: RegField) -> Result<String, NoMemory>
+    ensures { IfOk result (λ s.
+        string_bytes s ≡ reg_fault_text kind.now (reg.BadField field)) }
 {
-    let text = match fault {
-        RegFault::NotJson(fault) => return json_fault_text(alloc, fault),
-        RegFault::BadField(field) => {
-            let word = field_word(*field);
-            format!(in alloc; "registration: {word} is refused")?
-        }
-        RegFault::TooLarge { bytes } => format!(in alloc; "registration takes {bytes} bytes")?,
-        RegFault::Memory => return Err(NoMemory),
-    };
-    Ok(text)
+    let word = field_word(field);
+    Ok(format!(in alloc; "{kind}: {word} is refused")?)
+}
+
+fn large_text(alloc: Global, kind: &str, bytes: u64) -> Result<String, NoMemory>
+    ensures { IfOk result (λ s.
+        string_bytes s ≡ reg_fault_text kind.now (reg.TooLarge bytes)) }
+{
+    Ok(format!(in alloc; "{kind} takes {bytes} bytes")?)
+}
+
+/// Why a body of this kind, a registration or a beat, is refused.
+pub fn reg_fault_text(alloc: Global, kind: &str, fault: &RegFault) -> Result<String, NoMemory>
+    ensures { IfOk result (λ s. string_bytes s ≡ reg_fault_text kind.now fault.now) }
+{
+    match fault {
+        RegFault::NotJson(fault) => json_fault_text(alloc, fault),
+        RegFault::BadField(field) => bad_field_text(alloc, kind, *field),
+        RegFault::TooLarge { bytes } => large_text(alloc, kind, *bytes),
+        RegFault::Memory => Err(NoMemory),
+    }
 }
 
 /// Why a start failed.

@@ -91,7 +91,8 @@ fn touch_told(
     touching: Touching,
     close: bool,
 ) -> Turn
-    ensures turns { (id : List ℕ) (b : ℕ) → TouchTurns id b address target (answers.Touch touching) result close }
+    ensures turns { (id : List ℕ) (b : ℕ) →
+        TouchTurns id b address target (answers.Touch touching) result close }
     ensures ready { IsReady result [] }
     ensures less { IsBelow 2 result }
 {

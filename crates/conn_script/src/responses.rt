@@ -113,7 +113,15 @@ pub fn caps_refusal(alloc: Global, fault: &CapsFault, close: bool) -> Result<Byt
 pub fn reg_refusal(alloc: Global, fault: &RegFault, close: bool) -> Result<Bytes, NoMemory>
     ensures { IfOk result (λ bytes. bytes ≡ texts.bytes_of (words.reg_refusal fault.now) close) }
 {
-    let message = reg_fault_text(alloc, fault)?;
+    let message = reg_fault_text(alloc, "registration", fault)?;
+    failure(alloc, ErrorCode::InvalidArgument, message.as_str(), close)
+}
+
+/// The response to a beat whose body is refused. Out of memory is that of the body too.
+pub fn beat_refusal(alloc: Global, fault: &RegFault, close: bool) -> Result<Bytes, NoMemory>
+    ensures { IfOk result (λ bytes. bytes ≡ texts.bytes_of (words.beat_refusal fault.now) close) }
+{
+    let message = reg_fault_text(alloc, "beat", fault)?;
     failure(alloc, ErrorCode::InvalidArgument, message.as_str(), close)
 }
 
@@ -125,7 +133,8 @@ fn numbers_are_spent(alloc: Global, close: bool) -> Result<Bytes, NoMemory>
 
 /// The response to a request that the hub did not queue. Out of memory is that of the hub too.
 pub fn enqueue_refusal(alloc: Global, answer: &Enqueued, close: bool) -> Result<Bytes, NoMemory>
-    ensures { IfOk result (λ bytes. Responds (enqueued_reply answer.now) words.enqueue_refusal bytes close) }
+    ensures { IfOk result (λ bytes. Responds (enqueued_reply answer.now) words.enqueue_refusal bytes
+        close) }
 {
     match answer {
         Enqueued::NumbersSpent => numbers_are_spent(alloc, close),
@@ -143,7 +152,8 @@ pub fn enqueue_refusal(alloc: Global, answer: &Enqueued, close: bool) -> Result<
 
 /// The response to a registration. Out of memory is that of the hub too.
 pub fn registered(alloc: Global, answer: &Registering, close: bool) -> Result<Bytes, NoMemory>
-    ensures { IfOk result (λ bytes. Responds (registering_reply answer.now) words.register_response bytes close) }
+    ensures { IfOk result (λ bytes. Responds (registering_reply answer.now) words.register_response
+        bytes close) }
 {
     match answer {
         Registering::Registered(node) => {
@@ -173,7 +183,8 @@ pub fn cleared(alloc: Global, count: u32, close: bool) -> Result<Bytes, NoMemory
 
 /// The response with the hub's status.
 pub fn status(alloc: Global, view: &View, close: bool) -> Result<Bytes, NoMemory>
-    ensures { IfOk result (λ bytes. bytes ≡ texts.bytes_of (texts.own 200 (status_bytes view.now)) close) }
+    ensures { IfOk result (λ bytes. bytes
+        ≡ texts.bytes_of (texts.own 200 (status_bytes view.now)) close) }
 {
     let body = status_body(alloc, view)?;
     json(alloc, 200, body.as_bytes(), close)
@@ -181,7 +192,8 @@ pub fn status(alloc: Global, view: &View, close: bool) -> Result<Bytes, NoMemory
 
 /// The response with the waiting requests.
 pub fn queue(alloc: Global, view: &View, close: bool) -> Result<Bytes, NoMemory>
-    ensures { IfOk result (λ bytes. bytes ≡ texts.bytes_of (texts.own 200 (queue_bytes view.now)) close) }
+    ensures { IfOk result (λ bytes. bytes
+        ≡ texts.bytes_of (texts.own 200 (queue_bytes view.now)) close) }
 {
     let body = queue_body(alloc, view)?;
     json(alloc, 200, body.as_bytes(), close)
@@ -194,7 +206,8 @@ pub fn settled(
     outcome: &Outcome,
     close: bool,
 ) -> Result<Bytes, NoMemory>
-    ensures { IfOk result (λ bytes. bytes ≡ texts.bytes_of (words.outcome_response request outcome.now) close) }
+    ensures { IfOk result (λ bytes. bytes
+        ≡ texts.bytes_of (words.outcome_response request outcome.now) close) }
 {
     let message = match outcome {
         Outcome::Created { session, caps, .. } => {

@@ -1,5 +1,6 @@
 //! What a whole request asks for, and the first turn of its script.
-ghost use Rattle.std.specs.Prelude.{◌≡◌, false, []};
+ghost use Rattle.std.specs.Prelude.{◌≡◌, ℕ, List, false, []};
+ghost use Rattle.grid_types.specs.Calls.{Call};
 ghost use Rattle.http_frames.specs.Frames.{Request};
 ghost use Rattle.conn_script.specs.Asking.{IsOf};
 ghost use Rattle.conn_script.specs.Moving.{IsReady};
@@ -7,7 +8,8 @@ ghost use Rattle.conn_script.specs.Wanted.{call_of};
 ghost use Rattle.conn_script.specs.declared.turn.Turn.TheVariants as turn;
 ghost use Rattle.conn_script.specs.declared.turn.Run.TheVariants as run;
 ghost use Rattle.conn_script.specs.declared.calling.Calling.TheVariants as calling;
-ghost use Rattle.conn_script.specs.Routing.{FirstTurn, node_call, IsNodeAsked, AsksNode, AsksToRegister, AsksToDelete, AsksToRelay, AsksToCreate, IsRegistrationRefused, AreCapabilitiesRefused};
+ghost use Rattle.conn_script.specs.OneCall.{NamesNode};
+ghost use Rattle.conn_script.specs.Routing.{FirstTurn, node_call, IsNodeAsked, AsksNode, AsksToBeat, IsBeatRefused, AsksToRegister, AsksToDelete, AsksToRelay, AsksToCreate, IsRegistrationRefused, AreCapabilitiesRefused};
 
 use crate::calling::{Asked, Calling};
 use crate::creating::Creating;
@@ -15,12 +17,15 @@ use crate::deleting::Deleting;
 use crate::relaying::Relaying;
 use crate::request::Whole;
 use crate::responses::{
-    caps_refusal, no_such_node, no_such_session, reg_refusal, unknown_command, unknown_method,
+    beat_refusal, caps_refusal, no_such_node, no_such_session, reg_refusal, unknown_command,
+    unknown_method,
 };
 use crate::turn::{Run, Turn, respond};
 use crate::wants::HubCall;
-use caps_merge::{CapsFault, RegFault, process, registration, registrations_are_well_sized};
-use grid_types::{Bytes, NodeNo, SessionId};
+use caps_merge::{
+    CapsFault, RegFault, beat_name, process, registration, registrations_are_well_sized,
+};
+use grid_types::{Bytes, NodeNo, SessionId, Text};
 use router_core::{RouteFault, Routed, Router, node_number};
 use std::alloc::Global;
 
@@ -35,7 +40,7 @@ pub fn first_turn(alloc: Global, router: &Router, whole: Whole<'_>, close: bool)
         Ok(Routed::ClearQueue) => ask(HubCall::Clear, Asked::Clear),
         Ok(Routed::Remove(id)) => ask_node(alloc, id, Asked::Remove, close),
         Ok(Routed::Drain(id)) => ask_node(alloc, id, Asked::Drain, close),
-        Ok(Routed::Beat(id)) => ask_node(alloc, id, Asked::Beat, close),
+        Ok(Routed::Beat(id)) => beat(alloc, id, whole.body, close),
         Ok(Routed::Register) => register(alloc, whole.body, close),
         Ok(Routed::DeleteSession(id)) => delete(alloc, id, close),
         Ok(Routed::Relay { id, target }) => relay(alloc, id, target, close),
@@ -57,8 +62,7 @@ fn call_for(node: NodeNo, asked: Asked) -> HubCall
 {
     match asked {
         Asked::Remove => HubCall::Remove(node),
-        Asked::Drain => HubCall::Drain(node),
-        _ => HubCall::Beat(node),
+        _ => HubCall::Drain(node),
     }
 }
 
@@ -70,6 +74,45 @@ fn ask_node(alloc: Global, id: &[u8], asked: Asked, close: bool) -> Turn
     match node_number(id) {
         Some(node) => ask(call_for(node, asked), asked),
         None => respond(no_such_node(alloc, close)),
+    }
+}
+
+fn beat(alloc: Global, id: &[u8], body: &[u8], close: bool) -> Turn
+    ensures turns { AsksToBeat id.now body.now result close }
+    ensures ready { IsReady result [] }
+{
+    match node_number(id) {
+        Some(node) => beat_of(alloc, node, body, close),
+        None => respond(no_such_node(alloc, close)),
+    }
+}
+
+fn beat_of(alloc: Global, node: NodeNo, body: &[u8], close: bool) -> Turn
+    ensures turns { (id : List ℕ) → NamesNode id node → AsksToBeat id body.now result close }
+    ensures ready { IsReady result [] }
+{
+    match beat_name(alloc, body) {
+        Ok(name) => ask(beat_call(node, name), Asked::Beat),
+        Err(fault) => beat_refused(alloc, &fault, close),
+    }
+}
+
+fn beat_call(node: NodeNo, name: Option<Text>) -> HubCall
+    ensures { call_of result ≡ Call.beat node name }
+{
+    match name {
+        Some(name) => HubCall::BeatAs(node, name),
+        None => HubCall::Beat(node),
+    }
+}
+
+fn beat_refused(alloc: Global, fault: &RegFault, close: bool) -> Turn
+    ensures turns { IsBeatRefused fault.now result close }
+    ensures ready { IsReady result [] }
+{
+    match fault {
+        RegFault::Memory => Turn::Lacks,
+        _ => respond(beat_refusal(alloc, fault, close)),
     }
 }
 

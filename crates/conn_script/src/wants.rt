@@ -2,7 +2,7 @@
 use grid_outside::{ExchangeFault, PIECE_BYTES, Reply};
 use grid_types::{
     Caps, Choices, FailWhy, Found, NoMemory, NodeAddress, NodeNo, Registration, ReqNo, SessionId,
-    Spent, View,
+    Spent, Text, View,
 };
 use http_frames::{FrameFault, NodeRequest};
 use hub_core::{
@@ -57,6 +57,8 @@ pub enum ConnFault {
 pub enum HubCall {
     Register(Registration),
     Beat(NodeNo),
+    /// A beat that told the name of its node.
+    BeatAs(NodeNo, Text),
     Drain(NodeNo),
     Remove(NodeNo),
     Enqueue(Choices),

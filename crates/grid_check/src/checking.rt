@@ -27,10 +27,13 @@ fn open<S: Source>(feed: &mut Feed, input: &mut S) -> Result<Opened, CheckFault>
     requires nothing { waiting feed.old ≡ [] }
     requires first { feed.old.taken ≡ 0 }
     requires open { feed.old.ended ≡ false }
-    ensures opens { IfOk result (λ found. Opens (told (S.given input.old) (S.ends input.old)) (told (S.given input.new) (S.ends input.new)) feed.new found) }
+    ensures opens { IfOk result (λ found.
+        Opens (told (S.given input.old) (S.ends input.old))
+        (told (S.given input.new) (S.ends input.new)) feed.new found) }
     ensures ends { S.ends input.old ≤ S.ends input.new }
     ensures faults { S.faults input.old ≤ S.faults input.new }
-    ensures cause { IsErrOf result CheckFault.Read → Rose (S.faults input.old) (S.faults input.new) }
+    ensures cause { IsErrOf result CheckFault.Read →
+        Rose (S.faults input.old) (S.faults input.new) }
 {
     'pieces: loop {
         match read_head(feed.waiting()) {
@@ -82,11 +85,14 @@ impl Checking {
     /// Reads on where the bytes that wait are a part of an entry, or none.
     fn read_on<S: Source>(&mut self, input: &mut S) -> Result<Option<Verdict>, CheckFault>
         requires { BeginsEntry (waiting self.old.feed) }
-        ensures goes { IfOk result (λ found. GoesOn (told (S.given input.old) (S.ends input.old)) (told (S.given input.new) (S.ends input.new)) self.old self.new found) }
+        ensures goes { IfOk result (λ found.
+            GoesOn (told (S.given input.old) (S.ends input.old))
+            (told (S.given input.new) (S.ends input.new)) self.old self.new found) }
         ensures less { IfOk result (λ found. Lessens self.old.feed self.new.feed found) }
         ensures ends { S.ends input.old ≤ S.ends input.new }
         ensures faults { S.faults input.old ≤ S.faults input.new }
-        ensures cause { IsErrOf result CheckFault.Read → Rose (S.faults input.old) (S.faults input.new) }
+        ensures cause { IsErrOf result CheckFault.Read →
+            Rose (S.faults input.old) (S.faults input.new) }
     {
         if self.feed.is_full() {
             return Ok(Some(Verdict::Limit));
@@ -101,7 +107,8 @@ impl Checking {
     /// Takes an entry of so many bytes off the front, where it is permitted.
     fn take(&mut self, entry: Entry, len: usize) -> Result<Option<Verdict>, CheckFault>
         requires { BeginsWithEntry (waiting self.old.feed) entry len }
-        ensures goes { IfOk result (λ found. (now : Told) → GoesOn now now self.old self.new found) }
+        ensures goes { IfOk result (λ found. (now : Told) →
+            GoesOn now now self.old self.new found) }
         ensures less { IfOk result (λ found. Lessens self.old.feed self.new.feed found) }
         ensures lacks { IsErrOf result CheckFault.Read → ⊥ }
     {
@@ -125,11 +132,14 @@ impl Checking {
         input: &mut S,
     ) -> Result<Option<Verdict>, CheckFault>
         requires { EntryRead (waiting self.old.feed) step }
-        ensures goes { IfOk result (λ found. GoesOn (told (S.given input.old) (S.ends input.old)) (told (S.given input.new) (S.ends input.new)) self.old self.new found) }
+        ensures goes { IfOk result (λ found.
+            GoesOn (told (S.given input.old) (S.ends input.old))
+            (told (S.given input.new) (S.ends input.new)) self.old self.new found) }
         ensures less { IfOk result (λ found. Lessens self.old.feed self.new.feed found) }
         ensures ends { S.ends input.old ≤ S.ends input.new }
         ensures faults { S.faults input.old ≤ S.faults input.new }
-        ensures cause { IsErrOf result CheckFault.Read → Rose (S.faults input.old) (S.faults input.new) }
+        ensures cause { IsErrOf result CheckFault.Read →
+            Rose (S.faults input.old) (S.faults input.new) }
     {
         match step {
             EntryStep::Whole(entry, len) => self.take(entry, len),
@@ -142,11 +152,14 @@ impl Checking {
 
     /// Looks at the bytes that wait.
     fn look<S: Source>(&mut self, input: &mut S) -> Result<Option<Verdict>, CheckFault>
-        ensures goes { IfOk result (λ found. GoesOn (told (S.given input.old) (S.ends input.old)) (told (S.given input.new) (S.ends input.new)) self.old self.new found) }
+        ensures goes { IfOk result (λ found.
+            GoesOn (told (S.given input.old) (S.ends input.old))
+            (told (S.given input.new) (S.ends input.new)) self.old self.new found) }
         ensures less { IfOk result (λ found. Lessens self.old.feed self.new.feed found) }
         ensures ends { S.ends input.old ≤ S.ends input.new }
         ensures faults { S.faults input.old ≤ S.faults input.new }
-        ensures cause { IsErrOf result CheckFault.Read → Rose (S.faults input.old) (S.faults input.new) }
+        ensures cause { IsErrOf result CheckFault.Read →
+            Rose (S.faults input.old) (S.faults input.new) }
     {
         match read_entry(self.alloc, self.feed.waiting()) {
             Ok(step) => self.follow(step, input),
@@ -156,9 +169,12 @@ impl Checking {
 
     /// Goes on to the verdict.
     fn run<S: Source>(&mut self, input: &mut S) -> Result<Verdict, CheckFault>
-        ensures goes { IfOk result (λ v. (start : Told) → HasRead start (told (S.given input.old) (S.ends input.old)) self.old → IsTold start (told (S.given input.new) (S.ends input.new)) v) }
+        ensures goes { IfOk result (λ v. (start : Told) →
+            HasRead start (told (S.given input.old) (S.ends input.old)) self.old →
+            IsTold start (told (S.given input.new) (S.ends input.new)) v) }
         ensures faults { S.faults input.old ≤ S.faults input.new }
-        ensures cause { IsErrOf result CheckFault.Read → Rose (S.faults input.old) (S.faults input.new) }
+        ensures cause { IsErrOf result CheckFault.Read →
+            Rose (S.faults input.old) (S.faults input.new) }
     {
         'entries: loop {
             if let Some(verdict) = self.look(input)? {
@@ -174,9 +190,11 @@ impl Checking {
 /// `Read` where a read failed, `Memory` for want of memory.
 pub fn check<S: Source>(alloc: Global, input: &mut S) -> Result<Verdict, CheckFault>
     ensures says { IfOk result (λ v. IsVerdict (S.given input.old) (S.given input.new) v) }
-    ensures end { IfOk result (λ v. tells_end v ≡ true → Rose (S.ends input.old) (S.ends input.new)) }
+    ensures end { IfOk result (λ v. tells_end v ≡ true →
+        Rose (S.ends input.old) (S.ends input.new)) }
     ensures faults { S.faults input.old ≤ S.faults input.new }
-    ensures cause { IsErrOf result CheckFault.Read → Rose (S.faults input.old) (S.faults input.new) }
+    ensures cause { IsErrOf result CheckFault.Read →
+        Rose (S.faults input.old) (S.faults input.new) }
 {
     let mut feed = Feed::new(alloc);
     match open(&mut feed, input)? {

@@ -37,7 +37,8 @@ pub fn write_all<K: Sink>(output: &mut K, bytes: &[u8]) -> Result<(), Failed>
 
 /// Writes the verdict's line: the status of a program that does just that.
 fn tell<K: Sink>(alloc: Global, verdict: &Verdict, output: &mut K) -> u8
-    ensures { TellEnds (written (K.taken output.old) (K.faults output.old)) (written (K.taken output.new) (K.faults output.new)) verdict.now result }
+    ensures { TellEnds (written (K.taken output.old) (K.faults output.old))
+        (written (K.taken output.new) (K.faults output.new)) verdict.now result }
 {
     match line_of(alloc, verdict) {
         Ok(line) => match write_all(output, line.as_str().as_bytes()) {

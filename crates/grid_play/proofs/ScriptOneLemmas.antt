@@ -20,9 +20,9 @@ use Rattle.node_client.specs.Asks.{with_path, session_path}
 use Rattle.node_client.specs.Start.{Start}
 use Rattle.node_client.specs.Steps.{Step, Called, Spent, Exchanged, Paused}
 use Rattle.conn_script.specs.DeleteSession.{quit_response, AfterQuit, freed, freed_spent, AfterEnd, asked, AfterLookup, ended, not_ended, end_spent, AsksWhere, found_at, not_found, lookup_spent, DeleteSession, no_name, named}
-use Rattle.conn_script.specs.Messages.{caps_refusal, enqueue_refusal, outcome_response, reg_refusal, register_response, node_response, status_response, queue_response, clear_response}
+use Rattle.conn_script.specs.Messages.{beat_refusal, caps_refusal, enqueue_refusal, outcome_response, reg_refusal, register_response, node_response, status_response, queue_response, clear_response}
 use Rattle.conn_script.specs.NewSession.{poll_pause, SpentStart, spent_at, Rounds, not_yet, poll_lacks, yours, start_spent, settled, poll_spent, Asks, queued, not_queued, enqueue_spent, NewSession, no_choices, asks}
-use Rattle.conn_script.specs.OneCall.{OneCall, answered, call_spent, NodeCall, no_number, asks_node, NamesNode, Registers, no_registration, asks_hub}
+use Rattle.conn_script.specs.OneCall.{OneCall, answered, call_spent, NodeCall, no_number, asks_node, NamesNode, Beats, no_path, no_beat, beats_node, Registers, no_registration, asks_hub}
 use Rattle.conn_script.specs.Relay as relay
 use Rattle.conn_script.specs.Relay.{AfterTouch, AfterFound, FindsNode, Relay, relay_response, relayed}
 use Rattle.conn_script.specs.Responses.{Response}
@@ -151,6 +151,27 @@ module _ (laws : Readings) (c : HubConfig) (y z : State) where
   node_call_one Y Z call id X X' R R' s (asks_node n names w) (asks_node m names_too x) p q =
       let same = node_one id n m names names_too in
       one_call_one Y Z (call n) node_response X X' R R' s w (subst (λ (k : ℕ). OneCall (call k) node_response X' R') (sym same) x) p q
+
+  beats_one : (Y Z : List Step) (id body : List ℕ) (X X' : List Step) (R R' : Response) (s : State) → Beats id body X R → Beats id body X' R' →
+      Exactly c s (X ++ Y) y → Exactly c s (X' ++ Z) z → One laws c y z Y Z X X' R R'
+  beats_one Y Z id body X X' R R' s (no_path none) (no_path none_too) p q = one_none laws c y z Y Z s R R' refl p q
+  beats_one Y Z id body X X' R R' s (no_path none) (no_beat n fault names g) p q = absurd (none n names.0 names.1)
+  beats_one Y Z id body X X' R R' s (no_path none) (beats_node n name names g x) p q = absurd (none n names.0 names.1)
+  beats_one Y Z id body X X' R R' s (no_beat n fault names g) (no_path none) p q = absurd (none n names.0 names.1)
+  beats_one Y Z id body X X' R R' s (no_beat n fault names g) (no_beat m other names_too h) p q =
+      let e = laws.beats body (Err fault) (Err other) g h in
+      let same : fault ≡ other = cc in
+      one_none laws c y z Y Z s R R' (ap beat_refusal same) p q
+  beats_one Y Z id body X X' R R' s (no_beat n fault names g) (beats_node m name names_too h x) p q = let e = laws.beats body (Err fault) (Ok name) g h in cc
+  beats_one Y Z id body X X' R R' s (beats_node n name names g w) (no_path none) p q = absurd (none n names.0 names.1)
+  beats_one Y Z id body X X' R R' s (beats_node n name names g w) (no_beat m fault names_too h) p q = let e = laws.beats body (Ok name) (Err fault) g h in cc
+  beats_one Y Z id body X X' R R' s (beats_node n name names g w) (beats_node m other names_too h x) p q =
+      let e = laws.beats body (Ok name) (Ok other) g h in
+      let same : name ≡ other = cc in
+      let same_node = node_one id n m names names_too in
+      one_call_one Y Z (Call.beat n name) node_response X X' R R' s w
+      (subst (λ (k : Option (List ℕ)). OneCall (Call.beat n k) node_response X' R') (sym same)
+      (subst (λ (k : ℕ). OneCall (Call.beat k other) node_response X' R') (sym same_node) x)) p q
 
   registers_one : (Y Z : List Step) (body : List ℕ) (X X' : List Step) (R R' : Response) (s : State) → Registers body X R → Registers body X' R' →
       Exactly c s (X ++ Y) y → Exactly c s (X' ++ Z) z → One laws c y z Y Z X X' R R'
@@ -296,7 +317,7 @@ module _ (laws : Readings) (c : HubConfig) (y z : State) where
   by_route_one Y Z (Ok routes.register) f X X' R R' s w x p q = registers_one Y Z (body_of f) X X' R R' s w x p q
   by_route_one Y Z (Ok (routes.remove id)) f X X' R R' s w x p q = node_call_one Y Z Call.remove id X X' R R' s w x p q
   by_route_one Y Z (Ok (routes.drain id)) f X X' R R' s w x p q = node_call_one Y Z Call.drain id X X' R R' s w x p q
-  by_route_one Y Z (Ok (routes.beat id)) f X X' R R' s w x p q = node_call_one Y Z Call.beat id X X' R R' s w x p q
+  by_route_one Y Z (Ok (routes.beat id)) f X X' R R' s w x p q = beats_one Y Z id (body_of f) X X' R R' s w x p q
 
   pub script_one : (Y Z : List Step) (f : Request) (X X' : List Step) (R R' : Response) (s : State) → Script f X R → Script f X' R' →
       Exactly c s (X ++ Y) y → Exactly c s (X' ++ Z) z → One laws c y z Y Z X X' R R'

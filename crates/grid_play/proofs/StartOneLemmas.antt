@@ -200,4 +200,4 @@ module _ (laws : Readings) (c : HubConfig) (y z : State) where
   begins_one Y Z [] X X' s (swept {more = V} at r rest) (swept {more = W} on o rest_too) p q =
       one_call laws c y z Y Z s Call.sweep at on (Some r) (Some o) V W done done p q (λ a b. expires_one Y Z V W (called c s Call.sweep) rest rest_too a b)
   begins_one Y Z (n ∷ ns) X X' s (beaten {more = V} _ at r rest) (beaten {more = W} _ on o rest_too) p q =
-      one_call laws c y z Y Z s (Call.beat n) at on (Some r) (Some o) V W done done p q (λ a b. begins_one Y Z ns V W (called c s (Call.beat n)) rest rest_too a b)
+      one_call laws c y z Y Z s (Call.beat n None) at on (Some r) (Some o) V W done done p q (λ a b. begins_one Y Z ns V W (called c s (Call.beat n None)) rest rest_too a b)

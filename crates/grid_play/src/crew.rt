@@ -104,7 +104,8 @@ fn loop_node_of(alloc: Global, i: NodeNo, node: &PlayNode) -> Result<LoopNode, N
 fn register(hub: &mut LocalHub, registration: Registration) -> Result<(), NoMemory>
     requires { is_well_sized registration ≡ true }
     ensures config { hub.new.config ≡ hub.old.config }
-    ensures goes_on { OnOk result (past hub.new ≡ after_call hub.old.config (past hub.old) 0 (Call.register registration) 0) }
+    ensures goes_on { OnOk result (past hub.new
+        ≡ after_call hub.old.config (past hub.old) 0 (Call.register registration) 0) }
 {
     hub.room()?;
     match hub.register(registration, Moment(0)) {
@@ -185,7 +186,8 @@ pub fn crew_of(alloc: Global, config: HubConfig, played: &[PlayNode]) -> Result<
     requires fit { AllFit played.now }
     requires few { length played.now < 2 ^ 16 }
     ensures config { IfOk result (λ c. c.hub.config ≡ config) }
-    ensures crew { IfOk result (λ c. gathered c.hub (nodes_reached c.nodes) c.numbers.items ≡ first_crew config played.now) }
+    ensures crew { IfOk result (λ c. gathered c.hub (nodes_reached c.nodes) c.numbers.items
+        ≡ first_crew config played.now) }
 {
     let mut hub = LocalHub::new(alloc, config)?;
     let mut list = LoopList::new(alloc);

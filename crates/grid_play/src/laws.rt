@@ -4,7 +4,7 @@ ghost use Rattle.grid_play.specs.Bounds.{SessionsAreBounded};
 ghost use Rattle.grid_play.specs.OneConversation.{OneConversation};
 ghost use Rattle.grid_play.specs.Talks.{FirstCrewsAscend, OneTalk, SaidCrewsFit, SaidNodesFit, TalksKeepNumbers, TalksStand};
 
-use caps_merge::{bodies_give_one_answer, registrations_give_one_answer};
+use caps_merge::{beats_give_one_answer, bodies_give_one_answer, registrations_give_one_answer};
 use http_frames::{one_head, one_reading, refused_heads_stay, stays};
 use hub_conn::conversations_find_spent_last;
 use json_spans::{a_text_is_read_one_way, a_text_is_refused_one_way};
@@ -26,6 +26,7 @@ pub fn one_conversation()
     a_text_is_refused_one_way();
     bodies_give_one_answer();
     registrations_give_one_answer();
+    beats_give_one_answer();
     replies_say_one_thing();
     one_reading();
     conversations_find_spent_last();
@@ -57,6 +58,7 @@ pub fn one_talk()
     a_text_is_refused_one_way();
     bodies_give_one_answer();
     registrations_give_one_answer();
+    beats_give_one_answer();
     replies_say_one_thing();
     one_reading();
     conversations_find_spent_last();

@@ -152,7 +152,8 @@ pub fn run<S: Source, K: Sink>(alloc: Global, words: &[Text], input: &mut S, out
         (link_of (S.given input.new) (K.taken output.new) (S.faults input.new) (K.faults output.new) (S.ends input.new)) }
     ensures summed { (number : ℕ) → number < 2 ^ 64 → IsSimulate words.now number →
         Summed number result (K.taken output.old) (K.taken output.new) (K.faults output.old) (K.faults output.new) }
-    ensures unread { (number : ℕ) → number < 2 ^ 64 → IsSimulate words.now number → input.new ≡ input.old }
+    ensures unread { (number : ℕ) → number < 2 ^ 64 → IsSimulate words.now number →
+        input.new ≡ input.old }
     ensures read { result ≡ 3 → Rose (S.faults input.old) (S.faults input.new) }
     ensures write { result ≡ 4 → Rose (K.faults output.old) (K.faults output.new) }
     ensures statuses { (result ≡ 0) ⊎ ((2 ≤ result) × (result < 7)) }

@@ -1,6 +1,6 @@
 -- Steps of the loops of a simulation.
 use Rattle.std.proofs.Common.{◌≡◌, ℕ, zero, suc, ◌+◌, ◌<◌, Bool, true, false, ◌&&◌, List, [], ◌∷◌, ◌++◌, length, add-one, refl, sym, ap, subst, ◌∙◌, arith}
-use Rattle.std.specs.Prelude.{Option, Some, option_to_list, Result, Ok, Err, OnOk, is_ok}
+use Rattle.std.specs.Prelude.{Option, None, Some, option_to_list, Result, Ok, Err, OnOk, is_ok}
 use Rattle.grid_types.specs.declared.text.NoMemory.{NoMemory}
 use Rattle.std.specs.List.{slice_get, remove}
 use Rattle.grid_types.specs.declared.config.HubConfig.{HubConfig}
@@ -57,19 +57,19 @@ numbers_last : (f n : ℕ) → numbers_from f (suc n) ≡ numbers_from f n ++ (f
 numbers_last f zero = ap (λ (k : ℕ). k ∷ []) (omega arith)
 numbers_last f (suc n) = ap (λ (ks : List ℕ). f ∷ ks) (numbers_last (f + 1) n ∙ ap (λ (k : ℕ). numbers_from (f + 1) n ++ k ∷ []) (omega arith))
 
-beaten_last : (ns : List ℕ) (n : ℕ) (w : World) → beaten (ns ++ n ∷ []) w ≡ called (beaten ns w) (Call.beat n)
+beaten_last : (ns : List ℕ) (n : ℕ) (w : World) → beaten (ns ++ n ∷ []) w ≡ called (beaten ns w) (Call.beat n None)
 unfolding beaten
 beaten_last [] n w = refl
-beaten_last (m ∷ ns) n w = beaten_last ns n (called w (Call.beat m))
+beaten_last (m ∷ ns) n w = beaten_last ns n (called w (Call.beat m None))
 
 pub beaten_none : (w : World) → w ≡ beaten (numbers_from 1 0) w
 unfolding beaten
 beaten_none w = refl
 
-pub beaten_more : (i : ℕ) (w now next : World) → now ≡ beaten (numbers_from 1 i) w → next ≡ called now (Call.beat (i + 1)) → next ≡ beaten (numbers_from 1 (i + 1)) w
+pub beaten_more : (i : ℕ) (w now next : World) → now ≡ beaten (numbers_from 1 i) w → next ≡ called now (Call.beat (i + 1) None) → next ≡ beaten (numbers_from 1 (i + 1)) w
 beaten_more i w now next e h =
-    h ∙ ap (λ (u : World). called u (Call.beat (i + 1))) e
-    ∙ ap (λ (k : ℕ). called (beaten (numbers_from 1 i) w) (Call.beat k)) (omega arith)
+    h ∙ ap (λ (u : World). called u (Call.beat (i + 1) None)) e
+    ∙ ap (λ (k : ℕ). called (beaten (numbers_from 1 i) w) (Call.beat k None)) (omega arith)
     ∙ sym (beaten_last (numbers_from 1 i) (1 + i) w)
     ∙ ap (λ (ns : List ℕ). beaten ns w) (sym (numbers_last 1 i))
     ∙ ap (λ (k : ℕ). beaten (numbers_from 1 k) w) (sym (add-one i))

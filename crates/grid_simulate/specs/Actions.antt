@@ -141,7 +141,7 @@ pub data Expires : World → World → Type 0 where
 -- the nodes give a sign of life, in this order
 unfoldable pub beaten : List ℕ → World → World
 beaten [] w = w
-beaten (n ∷ ns) w = beaten ns (called w (Call.beat n))
+beaten (n ∷ ns) w = beaten ns (called w (Call.beat n None))
 
 -- once in twenty times the queue is cleared
 abbrev pub cleared_or_beaten : ℕ → World → World

@@ -39,7 +39,8 @@ fn turn(
 ) -> Option<CarryEnd>
     requires fresh { is_fresh carry.old ≡ true }
     requires under { IsUnder carry.old (past hub.old) }
-    ensures turned { Turned at.0 carry.old (grid_of hub.old (nodes_reached nodes.old)) kept.old result carry.new (grid_of hub.new (nodes_reached nodes.new)) kept.new }
+    ensures turned { Turned at.0 carry.old (grid_of hub.old (nodes_reached nodes.old)) kept.old
+        result carry.new (grid_of hub.new (nodes_reached nodes.new)) kept.new }
     ensures fresh { is_fresh carry.new ≡ true }
     ensures less { IfNone result (work carry.new < work carry.old) }
 {
@@ -81,7 +82,8 @@ pub(crate) fn carry_out(
     at: Moment,
 ) -> (Option<Kept>, bool)
     requires { IsGoodAt (past hub.old) 0 reservation at_start }
-    ensures { Carried at.0 reservation (grid_of hub.old (nodes_reached nodes.old)) result (grid_of hub.new (nodes_reached nodes.new)) }
+    ensures { Carried at.0 reservation (grid_of hub.old (nodes_reached nodes.old)) result
+        (grid_of hub.new (nodes_reached nodes.new)) }
 {
     let mut carry = Carry::new(alloc, reservation);
     let mut kept = None;

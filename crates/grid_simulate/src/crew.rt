@@ -115,7 +115,8 @@ fn register(hub: &mut LocalHub, registration: Registration) -> Result<(), NoMemo
     requires config { hub.old.config ≡ simulated_config }
     requires sized { is_well_sized registration ≡ true }
     ensures config { hub.new.config ≡ simulated_config }
-    ensures goes_on { OnOk result (past hub.new ≡ after_call simulated_config (past hub.old) 0 (Call.register registration) 0) }
+    ensures goes_on { OnOk result (past hub.new
+        ≡ after_call simulated_config (past hub.old) 0 (Call.register registration) 0) }
 {
     hub.room()?;
     match hub.register(registration, Moment(0)) {

@@ -54,7 +54,8 @@ impl Simulation {
         ensures sound { IsSound self.new }
         ensures moment { self.new.moment ≡ self.old.moment }
         ensures rest { self.new.tickets.items ≡ remove self.old.tickets.items 0 }
-        ensures polled { OnOk result (PollsFirst self.old.tickets.items (world_of self.old) (past self.new.hub)) }
+        ensures polled { OnOk result (PollsFirst self.old.tickets.items (world_of self.old)
+            (past self.new.hub)) }
     {
         let ticket = take_out(&mut self.tickets, 0);
         match self.hub.poll(ticket, Moment(self.moment)) {

@@ -195,7 +195,8 @@ expire-legal c H k m (Some b) l t e = closes-legal c H k b cause.Idle m (bound_o
 answer-legal : (c : HubConfig) (H : List Entry) (k : ℕ) (call : Call) (m : ℕ) → legal c H ≡ true → nat_le (clock H) m ≡ true → is_good_call H k call ≡ true → StaysLegal c H k (answer c H k call m)
 unfolding permitted
 answer-legal c H k (Call.register r) m l t good = register-legal c H k r m (find (is_named H r.name) (nodes H)) l t good refl
-answer-legal c H k (Call.beat n) m l t good = grind arith
+answer-legal c H k (Call.beat n None) m l t good = grind arith
+answer-legal c H k (Call.beat n (Some name)) m l t good = grind arith
 answer-legal c H k (Call.drain n) m l t good = drain-legal c H k n m l t
 answer-legal c H k (Call.remove n) m l t good = grind arith
 answer-legal c H k (Call.enqueue choices) m l t good = enqueue-legal c H k choices m l t good

@@ -104,7 +104,8 @@ expire-gives H k m (Some b) = by_bound (bound_of H b) refl
 
 answer-gives : (c : HubConfig) (H : List Entry) (k : ℕ) (call : Call) (m : ℕ) → legal c H ≡ true → is_good_call H k call ≡ true → GivesGood H k (answer c H k call m)
 answer-gives c H k (Call.register r) m l good = register-gives c H k r m (find (is_named H r.name) (nodes H))
-answer-gives c H k (Call.beat n) m l good = grind arith
+answer-gives c H k (Call.beat n None) m l good = grind arith
+answer-gives c H k (Call.beat n (Some name)) m l good = grind arith
 answer-gives c H k (Call.drain n) m l good = drain-gives H k n m
 answer-gives c H k (Call.remove n) m l good = grind arith
 answer-gives c H k (Call.enqueue choices) m l good = enqueue-gives c H k choices m l

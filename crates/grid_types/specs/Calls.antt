@@ -1,5 +1,5 @@
 -- The hub's calls and replies as plain data. A token in one is all that it tells.
-use Rattle.std.specs.Prelude.{ℕ, List}
+use Rattle.std.specs.Prelude.{ℕ, List, Option}
 use Rattle.grid_types.specs.declared.capabilities.Cap.{Cap}
 use Rattle.grid_types.specs.declared.capabilities.Registration.{Registration}
 use Rattle.grid_types.specs.declared.entry.FailWhy.{FailWhy}
@@ -11,7 +11,7 @@ use Rattle.grid_types.specs.Tokens.{Ticket, Reservation, Closing}
 -- what the hub is asked; a moment and a caller come with each
 pub data Call : Type 0 where
   register : (node : Registration) → Call
-  beat : (node : ℕ) → Call
+  beat : (node : ℕ) (name : Option (List ℕ)) → Call
   drain : (node : ℕ) → Call
   remove : (node : ℕ) → Call
   enqueue : (choices : List (List Cap)) → Call

@@ -57,6 +57,18 @@ register_by config history registration now None =
     makes (change.Registered (next_node config history) registration (moment now))
     (Reply.registered (next_node config history))
 
+-- the node is registered, and where the beat tells a name it is the node's
+abbrev pub is_beat_of : List Entry → ℕ → Option (List ℕ) → Bool
+is_beat_of history node None = is_registered history node
+is_beat_of history node (Some name) = is_named history name node
+
+-- beat: a node of this number under another name is not the one that beats
+abbrev pub beaten : List Entry → ℕ → Option (List ℕ) → ℕ → Answer
+beaten history node name now =
+    if is_beat_of history node name
+    then makes (change.Beaten node (moment now)) Reply.beaten
+    else says Reply.no_node
+
 -- the change and the reply, where the node is registered
 abbrev pub at_registered : List Entry → ℕ → Change → Reply → Answer
 at_registered history node made reply =
@@ -294,8 +306,7 @@ abbrev pub answer : HubConfig → List Entry → ℕ → Call → ℕ → Answer
 answer config history caller (Call.register registration) now =
     register_by config history registration now
     (find (is_named history registration.name) (nodes history))
-answer config history caller (Call.beat node) now =
-    at_registered history node (change.Beaten node (moment now)) Reply.beaten
+answer config history caller (Call.beat node name) now = beaten history node name now
 answer config history caller (Call.drain node) now = drained history node now
 answer config history caller (Call.remove node) now =
     at_registered history node (change.Removed node (moment now)) Reply.removed

@@ -313,7 +313,7 @@ abbrev pub all_at_once : List (Call × ℕ)
 all_at_once =
     (Call.register (node (codes "a") first_address firefox 1), 0) ∷ (Call.register (node (codes "b") second_address firefox 1), 0)
     ∷ (Call.register (node (codes "c") third_address firefox 1), 0) ∷ (wants chrome, 0) ∷ (wants chrome, 0)
-    ∷ (Call.drain 1, 1) ∷ (Call.drain 2, 1) ∷ (Call.beat 3, 170_000) ∷ (Call.beat 1, 290_000) ∷ []
+    ∷ (Call.drain 1, 1) ∷ (Call.drain 2, 1) ∷ (Call.beat 3 None, 170_000) ∷ (Call.beat 1 None, 290_000) ∷ []
 
 pub record WorkedSweep : Type 0 where
   pub makes : (hub default_config (run default_config [] all_at_once) 0 Call.sweep 300_000).changes
@@ -354,15 +354,27 @@ pub record WorkedMismatch : Type 0 where
   pub tells_why : reply_after default_config (one_queued ++ (Call.dispatch, 0) ∷ (Call.bind (reservation 1 1 first_address chrome) (codes "a") (named firefox), 1) ∷ []) (Call.poll (ticket 1 300_000)) 2
       ≡ Reply.settled (outcome.StartFailed why.Mismatch)
 
--- a number of no registered node, a name that is taken, and one that a removal frees
+-- a number of no registered node, a name that is taken, one that a removal frees, and beats that
+-- tell a name
+abbrev pub both_named : List (Call × ℕ)
+both_named = (first_node, 0) ∷ (second_node second_address, 0) ∷ []
+
 pub record WorkedNodes : Type 0 where
-  pub no_beat : reply_after default_config ((first_node, 0) ∷ []) (Call.beat 9) 0 ≡ Reply.no_node
+  pub no_beat : reply_after default_config ((first_node, 0) ∷ []) (Call.beat 9 None) 0 ≡ Reply.no_node
   pub no_drain : reply_after default_config ((first_node, 0) ∷ []) (Call.drain 9) 0 ≡ Reply.no_node
   pub no_removal : reply_after default_config ((first_node, 0) ∷ []) (Call.remove 9) 0 ≡ Reply.no_node
   pub name_taken : reply_after default_config ((first_node, 0) ∷ []) first_node 0 ≡ Reply.name_taken 1
   pub removed : reply_after default_config ((first_node, 0) ∷ []) (Call.remove 1) 0 ≡ Reply.removed
   pub removed_once : reply_after default_config ((first_node, 0) ∷ (Call.remove 1, 0) ∷ []) (Call.remove 1) 0 ≡ Reply.no_node
   pub name_freed : reply_after default_config ((first_node, 0) ∷ (Call.remove 1, 0) ∷ []) first_node 0 ≡ Reply.registered 2
+  -- nodes "a" and "b" are 1 and 2: a beat under a name is the node's own where number and name are
+  -- one node's, and else no node is heard
+  pub own_beat : reply_after default_config both_named (Call.beat 1 (Some (codes "a"))) 1 ≡ Reply.beaten
+  pub beat_of_the_other : reply_after default_config both_named (Call.beat 1 (Some (codes "b"))) 1 ≡ Reply.no_node
+  pub beat_of_nobody : reply_after default_config both_named (Call.beat 1 (Some (codes "c"))) 1 ≡ Reply.no_node
+  pub beat_of_no_number : reply_after default_config both_named (Call.beat 3 (Some (codes "a"))) 1 ≡ Reply.no_node
+  pub beat_after_removal : reply_after default_config (both_named ++ (Call.remove 1, 0) ∷ []) (Call.beat 1 (Some (codes "a"))) 1 ≡ Reply.no_node
+  pub other_beat_is_not_heard : run default_config [] (both_named ++ (Call.beat 1 (Some (codes "b")), 1) ∷ []) ≡ run default_config [] both_named
 
 -- a node of two slots that lapses with a session and a reservation: at the moment, and not a
 -- millisecond before
@@ -380,7 +392,7 @@ lapsed = two_slots ++ (Call.sweep, 240_000) ∷ []
 pub record WorkedLapse : Type 0 where
   pub before_it : reply_after default_config two_slots Call.sweep 239_999 ≡ Reply.swept 0 1 0 0
   pub at_it : reply_after default_config two_slots Call.sweep 240_000 ≡ Reply.swept 1 0 0 0
-  pub after_a_beat : reply_after default_config (two_slots ++ (Call.beat 1, 1) ∷ []) Call.sweep 240_000 ≡ Reply.swept 0 1 0 0
+  pub after_a_beat : reply_after default_config (two_slots ++ (Call.beat 1 None, 1) ∷ []) Call.sweep 240_000 ≡ Reply.swept 0 1 0 0
   pub not_permitted_before : and_then default_config two_slots 0 (change.Lapsed 1 (time 239_999)) ≡ false
   pub session_gone : reply_after default_config lapsed (Call.lookup (codes "a")) 240_000 ≡ Reply.found found.NoSession
   pub node_gone : reply_after default_config lapsed (Call.bind second_slot (codes "b") (named chrome)) 240_001
@@ -445,7 +457,7 @@ pub record WorkedDrain : Type 0 where
       ≡ Reply.viewed (record { ready = false; nodes = []; waiting = record { request = 2; deadline = time 300_001; choices = 1; bytes = 24 } ∷ [] })
   pub listed_while_busy : reply_after default_config draining Call.view 2 ≡ Reply.viewed (viewed_with standing.Draining)
   pub listed_though_gone : reply_after default_config (draining ++ (Call.remove 1, 2) ∷ []) Call.view 2 ≡ Reply.viewed (viewed_with standing.Gone)
-  pub still_beats : reply_after default_config draining (Call.beat 1) 2 ≡ Reply.beaten
+  pub still_beats : reply_after default_config draining (Call.beat 1 None) 2 ≡ Reply.beaten
   pub ready_when_up : reply_after default_config ((first_node, 0) ∷ []) Call.view 0
       ≡ Reply.viewed (record {
         ready = true;
@@ -514,7 +526,7 @@ abbrev pub suspected : List (Call × ℕ)
 suspected = silent ++ (Call.sweep, 120_000) ∷ (wants chrome, 120_000) ∷ []
 
 abbrev pub back : List (Call × ℕ)
-back = suspected ++ (Call.beat 1, 130_000) ∷ []
+back = suspected ++ (Call.beat 1 None, 130_000) ∷ []
 
 abbrev pub suspected_again : List (Call × ℕ)
 suspected_again = back ++ (Call.dispatch, 130_000) ∷ (Call.sweep, 250_000) ∷ []
@@ -550,9 +562,9 @@ pub record WorkedSuspect : Type 0 where
   pub may_come_back : reply_after default_config (first_start ++ (Call.sweep, 120_000) ∷ []) (fails 1 first_address) 120_000 ≡ Reply.failed_again
   pub drains : reply_after default_config (silent ++ (Call.sweep, 120_000) ∷ []) (Call.drain 1) 120_000 ≡ Reply.draining
   pub shown_suspect : reply_after default_config drained_suspect Call.view 120_000 ≡ Reply.viewed (shown_as standing.Suspect)
-  pub shown_draining : reply_after default_config (drained_suspect ++ (Call.beat 1, 120_001) ∷ []) Call.view 120_001 ≡ Reply.viewed (shown_as standing.Draining)
+  pub shown_draining : reply_after default_config (drained_suspect ++ (Call.beat 1 None, 120_001) ∷ []) Call.view 120_001 ≡ Reply.viewed (shown_as standing.Draining)
   pub is_legal : legal default_config (run default_config [] (down ++ (Call.bind second_slot (codes "b") (named chrome), 370_000) ∷ [])) ≡ true
-  pub drain_is_legal : legal default_config (run default_config [] (drained_suspect ++ (Call.beat 1, 120_001) ∷ [])) ≡ true
+  pub drain_is_legal : legal default_config (run default_config [] (drained_suspect ++ (Call.beat 1 None, 120_001) ∷ [])) ≡ true
 
 -- a node that drains after one session
 abbrev pub for_one : List (Call × ℕ)

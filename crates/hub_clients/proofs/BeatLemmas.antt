@@ -52,19 +52,19 @@ made-is c old new call at r s = by_answer s.serves.answers
         append_cancel_left s.point s.made (made_by c (history_of s.point) old.number call at)
         (sym (reverse-reverse (s.point ++ s.made)) ∙ (ap (λ (l : List Entry). reverse l) turned ∙ reverse-reverse (s.point ++ made_by c (history_of s.point) old.number call at)))
 
-beaten-one : (c : HubConfig) (H : List Entry) (k n at : ℕ) → Reply.beaten ≡ (hub c H k (Call.beat n) at).reply → length (made_by c H k (Call.beat n) at) ≡ 1
+beaten-one : (c : HubConfig) (H : List Entry) (k n at : ℕ) → Reply.beaten ≡ (hub c H k (Call.beat n None) at).reply → length (made_by c H k (Call.beat n None) at) ≡ 1
 unfolding hub
 beaten-one c H k n at h = grind (arith, h)
 
 -- a beat that was taken is one entry more
-pub beaten-more : (c : HubConfig) (old new : View Grid) (n at : ℕ) → SharedServes c old (Call.beat n) at (Some Reply.beaten) new → length new.mine ≡ length old.mine + 1
+pub beaten-more : (c : HubConfig) (old new : View Grid) (n at : ℕ) → SharedServes c old (Call.beat n None) at (Some Reply.beaten) new → length new.mine ≡ length old.mine + 1
 beaten-more c old new n at s = by_answer s.serves.answers
   where
-    by_answer : Answers c (history_of s.point) old.number (Call.beat n) at (Some Reply.beaten) (past new) → length new.mine ≡ length old.mine + 1
+    by_answer : Answers c (history_of s.point) old.number (Call.beat n None) at (Some Reply.beaten) (past new) → length new.mine ≡ length old.mine + 1
     by_answer (inr x) = absurd (cc (x.silent))
     by_answer (inl x) =
-        let one : length (made_by c (history_of s.point) old.number (Call.beat n) at) ≡ 1 = beaten-one c (history_of s.point) old.number n at (cc (x.replies)) in
-        let is : length s.made ≡ 1 = ap (λ (l : List Entry). length l) (made-is c old new (Call.beat n) at Reply.beaten s) ∙ one in
+        let one : length (made_by c (history_of s.point) old.number (Call.beat n None) at) ≡ 1 = beaten-one c (history_of s.point) old.number n at (cc (x.replies)) in
+        let is : length s.made ≡ 1 = ap (λ (l : List Entry). length l) (made-is c old new (Call.beat n None) at Reply.beaten s) ∙ one in
         ap (λ (v : View Grid). length v.mine) s.turn.goes ∙ (length-append old.mine s.made ∙ ap (λ (z : ℕ). length old.mine + z) is)
 
 pub same-ended : (c : HubConfig) (old new : View Grid) (call : Call) (at : ℕ) (reply : Option Reply) → SharedServes c old call at reply new → new.ended ≡ old.ended

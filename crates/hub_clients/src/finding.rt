@@ -19,13 +19,17 @@ pub fn find_published<R: Threads>(
 ) -> (Pass, Option<Found>)
     requires { IsOf hub.now pass }
     ensures own { IsOf hub.now result.0 × (knows result.0 ≡ noting session result.1 (knows pass)) }
-    ensures found { IfSome result.1 (FromMap (reader_of pass) (reader_of result.0) (past (knows pass)) session) }
+    ensures found { IfSome result.1 (FromMap (reader_of pass) (reader_of result.0)
+        (past (knows pass)) session) }
 {
     let (found, ()) = thread::join(
         rt,
         move || -> (Pass, Option<Found>)
             requires { IsOf hub.now pass }
-            ensures { IsOf hub.entry.now result.0 × (knows result.0 ≡ noting session result.1 (knows pass)) × IfSome result.1 (FromMap (reader_of pass) (reader_of result.0) (past (knows pass)) session) }
+            ensures { IsOf hub.entry.now result.0
+                × (knows result.0 ≡ noting session result.1 (knows pass))
+                × IfSome result.1 (FromMap (reader_of pass) (reader_of result.0) (past (knows pass))
+                session) }
         { find(hub, pass, &session) },
         || {},
     );
@@ -34,8 +38,10 @@ pub fn find_published<R: Threads>(
 
 fn find(hub: &SharedHub, mut pass: Pass, session: &SessionId) -> (Pass, Option<Found>)
     requires { IsOf hub.now pass }
-    ensures own { IsOf hub.now result.0 × (knows result.0 ≡ noting session.now result.1 (knows pass)) }
-    ensures found { IfSome result.1 (FromMap (reader_of pass) (reader_of result.0) (past (knows pass)) session.now) }
+    ensures own { IsOf hub.now result.0
+        × (knows result.0 ≡ noting session.now result.1 (knows pass)) }
+    ensures found { IfSome result.1 (FromMap (reader_of pass) (reader_of result.0)
+        (past (knows pass)) session.now) }
 {
     let found = hub.lookup(&mut pass, session);
     (pass, found)

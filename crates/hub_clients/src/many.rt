@@ -30,7 +30,9 @@ fn beat_often<R: Wait>(
     times: u64,
 ) -> Result<Pass, Fault>
     requires { IsOf hub.now pass }
-    ensures { IfOk result (λ p. IsOf hub.entry.now p × (length (knows p).mine ≡ length (knows pass).mine + times) × ((knows p).ended ≡ (knows pass).ended)) }
+    ensures { IfOk result (λ p. IsOf hub.entry.now p
+        × (length (knows p).mine ≡ length (knows pass).mine + times)
+        × ((knows p).ended ≡ (knows pass).ended)) }
 {
     for _ in 0..times {
         match hub.beat(rt, &mut pass, node, Moment(0)) {
@@ -45,7 +47,9 @@ fn beat_often<R: Wait>(
 /// Lists the node as number 1.
 fn list_first<R: Wait>(rt: &R, hub: &SharedHub, pass: &mut Pass, node: Registration) -> Option<()>
     requires { IsOf hub.now pass.old × (is_well_sized node ≡ true) × ((knows pass.old).mine ≡ []) }
-    ensures { IfSome result (λ _. IsOf hub.now pass.new × IsListing (knows pass.old).number node (knows pass.new).mine × ((knows pass.new).ended ≡ (knows pass.old).ended)) }
+    ensures { IfSome result (λ _. IsOf hub.now pass.new
+        × IsListing (knows pass.old).number node (knows pass.new).mine
+        × ((knows pass.new).ended ≡ (knows pass.old).ended)) }
 {
     match hub.register(rt, pass, node, Moment(0)) {
         Ok(Registering::Registered(1)) => Some(()),
@@ -55,7 +59,9 @@ fn list_first<R: Wait>(rt: &R, hub: &SharedHub, pass: &mut Pass, node: Registrat
 
 fn another<R: Wait>(rt: &R, hub: &SharedHub, pass: &mut Pass) -> Option<Pass>
     requires { IsOf hub.now pass.old }
-    ensures own { IfSome result (λ _. IsOf hub.now pass.new × ((knows pass.new).ended ≡ (knows pass.old).ended) × ((knows pass.new).mine ≡ (knows pass.old).mine)) }
+    ensures own { IfSome result (λ _. IsOf hub.now pass.new
+        × ((knows pass.new).ended ≡ (knows pass.old).ended)
+        × ((knows pass.new).mine ≡ (knows pass.old).mine)) }
     ensures new { IfSome result (IsNew hub.now) }
 {
     hub.split(rt, pass).ok()
@@ -66,7 +72,8 @@ fn rejoin(hub: &SharedHub, pass: &mut Pass, other: Pass, count: u64)
     requires own { IsOf hub.now pass.old × EachHas count (knows pass.old).ended }
     requires other { HasMade hub.now count other }
     ensures own { IsOf hub.now pass.new × EachHas count (knows pass.new).ended }
-    ensures more { (length (knows pass.new).ended ≡ length (knows pass.old).ended + 1) × ((knows pass.new).mine ≡ (knows pass.old).mine) }
+    ensures more { (length (knows pass.new).ended ≡ length (knows pass.old).ended + 1)
+        × ((knows pass.new).mine ≡ (knows pass.old).mine) }
 {
     hub.join(pass, other);
 }
@@ -79,7 +86,8 @@ fn split_off<R: Wait>(
     count: usize,
 ) -> Option<Vec<Pass>>
     requires { IsOf hub.now pass.old × ((knows pass.old).ended ≡ []) }
-    ensures own { IfSome result (λ _. IsOf hub.now pass.new × ((knows pass.new).ended ≡ []) × ((knows pass.new).mine ≡ (knows pass.old).mine)) }
+    ensures own { IfSome result (λ _. IsOf hub.now pass.new × ((knows pass.new).ended ≡ [])
+        × ((knows pass.new).mine ≡ (knows pass.old).mine)) }
     ensures new { IfSome result (λ v. (vec_len v ≡ count) × All (IsNew hub.now) v.items) }
 {
     let mut passes = Vec::new(alloc);
@@ -97,7 +105,9 @@ fn rejoin_all(
 ) -> Result<(), Fault>
     requires own { IsOf hub.now pass.old × ((knows pass.old).ended ≡ []) }
     requires others { All (MadeOrNot hub.now times) others.items }
-    ensures { IfOk result (λ _. IsOf hub.now pass.new × EachHas times (knows pass.new).ended × (length (knows pass.new).ended ≡ vec_len others) × ((knows pass.new).mine ≡ (knows pass.old).mine)) }
+    ensures { IfOk result (λ _. IsOf hub.now pass.new × EachHas times (knows pass.new).ended
+        × (length (knows pass.new).ended ≡ vec_len others)
+        × ((knows pass.new).mine ≡ (knows pass.old).mine)) }
 {
     for other in others {
         rejoin(hub, pass, other?, times);
@@ -112,7 +122,8 @@ fn all_beat<R: Threads + Wait + Sync>(
     times: u64,
 ) -> Option<Vec<Result<Pass, Fault>>>
     requires { All (IsNew hub.now) passes.items }
-    ensures { IfSome result (λ v. (vec_len v ≡ vec_len passes) × All (MadeOrNot hub.entry.now times) v.items) }
+    ensures { IfSome result (λ v. (vec_len v ≡ vec_len passes)
+        × All (MadeOrNot hub.entry.now times) v.items) }
 {
     let done = thread::map_vec(
         rt,
@@ -135,9 +146,12 @@ fn beat_all<R: Threads + Wait + Sync>(
     count: usize,
     times: u64,
 ) -> Option<()>
-    requires { IsOf hub.now pass.old × (is_well_sized node ≡ true) × ((knows pass.old).ended ≡ []) × ((knows pass.old).mine ≡ []) }
-    ensures ended { IfSome result (λ _. (length (knows pass.new).ended ≡ count) × EachHas times (knows pass.new).ended) }
-    ensures mine { IfSome result (λ _. IsListing (knows pass.old).number node (knows pass.new).mine) }
+    requires { IsOf hub.now pass.old × (is_well_sized node ≡ true) × ((knows pass.old).ended ≡ [])
+        × ((knows pass.old).mine ≡ []) }
+    ensures ended { IfSome result (λ _. (length (knows pass.new).ended ≡ count)
+        × EachHas times (knows pass.new).ended) }
+    ensures mine { IfSome result (λ _. IsListing (knows pass.old).number node
+        (knows pass.new).mine) }
 {
     list_first(rt, hub, pass, node)?;
     let passes = split_off(rt, alloc, hub, pass, count)?;
@@ -156,7 +170,8 @@ pub fn many_beat<R: Threads + Wait + Sync>(
 ) -> Option<Pass>
     requires sized { is_well_sized node ≡ true }
     requires few { count < 256 }
-    ensures ended { IfSome result (λ p. (length (knows p).ended ≡ count) × EachHas times (knows p).ended) }
+    ensures ended { IfSome result (λ p. (length (knows p).ended ≡ count)
+        × EachHas times (knows p).ended) }
     ensures mine { IfSome result (λ p. IsListing 0 node (knows p).mine) }
 {
     let passes = count as u32 + 1;

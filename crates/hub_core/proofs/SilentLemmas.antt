@@ -90,7 +90,7 @@ quiet-dispatched H k m (Some a) = makes-quiet _ _ (λ L. refl)
 
 quiet-answer : (c : HubConfig) (H : List Entry) (k : ℕ) (call : Call) (m : ℕ) → is_quiet call ≡ true → IsQuiet (answer c H k call m)
 quiet-answer c H k (Call.register r) m q = quiet-register c H r m (find (is_named H r.name) (nodes H))
-quiet-answer c H k (Call.beat n) m q = quiet-cond _ _ _ (makes-quiet _ _ (λ L. refl)) (says-quiet _)
+quiet-answer c H k (Call.beat n name) m q = quiet-cond _ _ _ (makes-quiet _ _ (λ L. refl)) (says-quiet _)
 quiet-answer c H k (Call.drain n) m q = quiet-cond _ _ _ (makes-quiet _ _ (λ L. refl)) (quiet-cond _ _ _ (says-quiet _) (says-quiet _))
 quiet-answer c H k (Call.remove n) m q = quiet-cond _ _ _ (makes-quiet _ _ (λ L. refl)) (says-quiet _)
 quiet-answer c H k (Call.enqueue choices) m q = quiet-enqueued c H choices m

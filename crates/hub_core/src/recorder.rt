@@ -24,7 +24,8 @@ pub(crate) trait Recorder {
 
     fn record(&mut self, change: Change)
         requires { asks ≡ true → MayRecord Whose caller_of (holds self.old) change }
-        ensures { (whose : Whose) (past : List Entry) → holds self.old whose past → holds self.new whose (entry (caller_of whose) change ∷ past) };
+        ensures { (whose : Whose) (past : List Entry) → holds self.old whose past →
+            holds self.new whose (entry (caller_of whose) change ∷ past) };
 }
 
 /// Nothing is recorded: whatever the history is.

@@ -17,8 +17,10 @@ use grid_types::{Change, Moment, history_laws};
 /// Lets the nodes lapse that were silent for too long, makes the other silent ones suspect, times out the requests
 /// whose deadline is reached, and takes off the drained nodes that have no slot in use.
 pub(crate) fn sweep<R: Recorder>(core: &mut HubCore, recorder: &mut R, at: Moment) -> Swept
-    requires { R.asks ≡ true → ForSome R.Whose (λ whose H. StandsHeld core.old (R.holds recorder.old whose) H) }
-    ensures { (whose : R.Whose) → RecordsCall core.old (R.holds recorder.old whose) core.new (R.holds recorder.new whose) (R.caller_of whose) Call.sweep at.0 (swept_reply result) }
+    requires { R.asks ≡ true → ForSome R.Whose
+        (λ whose H. StandsHeld core.old (R.holds recorder.old whose) H) }
+    ensures { (whose : R.Whose) → RecordsCall core.old (R.holds recorder.old whose) core.new
+        (R.holds recorder.new whose) (R.caller_of whose) Call.sweep at.0 (swept_reply result) }
 {
     history_laws();
     let now = core.tables.raised(at);
@@ -37,8 +39,11 @@ pub(crate) fn sweep<R: Recorder>(core: &mut HubCore, recorder: &mut R, at: Momen
 
 /// Clears each waiting request from the queue, and tells how many there were.
 pub(crate) fn clear<R: Recorder>(core: &mut HubCore, recorder: &mut R, at: Moment) -> u32
-    requires { R.asks ≡ true → ForSome R.Whose (λ whose H. StandsHeld core.old (R.holds recorder.old whose) H) }
-    ensures { (whose : R.Whose) → RecordsCall core.old (R.holds recorder.old whose) core.new (R.holds recorder.new whose) (R.caller_of whose) Call.clear at.0 (Some (Reply.cleared result)) }
+    requires { R.asks ≡ true → ForSome R.Whose
+        (λ whose H. StandsHeld core.old (R.holds recorder.old whose) H) }
+    ensures { (whose : R.Whose) → RecordsCall core.old (R.holds recorder.old whose) core.new
+        (R.holds recorder.new whose) (R.caller_of whose) Call.clear at.0
+        (Some (Reply.cleared result)) }
 {
     history_laws();
     let now = core.tables.raised(at);
@@ -47,8 +52,11 @@ pub(crate) fn clear<R: Recorder>(core: &mut HubCore, recorder: &mut R, at: Momen
 
 /// Lets each node lapse that was silent for too long, and tells how many there were.
 fn lapse_nodes<R: Recorder>(core: &mut HubCore, recorder: &mut R, now: Moment) -> u32
-    requires { R.asks ≡ true → ForSome R.Whose (λ whose H. StandsAt core.old (R.holds recorder.old whose) now.0 H) }
-    ensures { (whose : R.Whose) → NotesEach (λ H. lapsed_nodes core.old.config H now.0) (λ n. change.Lapsed n now) core.old (R.holds recorder.old whose) core.new (R.holds recorder.new whose) (R.caller_of whose) now.0 result }
+    requires { R.asks ≡ true → ForSome R.Whose
+        (λ whose H. StandsAt core.old (R.holds recorder.old whose) now.0 H) }
+    ensures { (whose : R.Whose) → NotesEach (λ H. lapsed_nodes core.old.config H now.0)
+        (λ n. change.Lapsed n now) core.old (R.holds recorder.old whose) core.new
+        (R.holds recorder.new whose) (R.caller_of whose) now.0 result }
 {
     history_laws();
     let mut count: u32 = 0;
@@ -64,8 +72,11 @@ fn lapse_nodes<R: Recorder>(core: &mut HubCore, recorder: &mut R, now: Moment) -
 
 /// Makes each node suspect that is silent and not suspect yet, and tells how many there were.
 fn suspect_nodes<R: Recorder>(core: &mut HubCore, recorder: &mut R, now: Moment) -> u32
-    requires { R.asks ≡ true → ForSome R.Whose (λ whose H. StandsAt core.old (R.holds recorder.old whose) now.0 H) }
-    ensures { (whose : R.Whose) → NotesEach (λ H. silent_nodes core.old.config H now.0) (λ n. change.Suspected n now) core.old (R.holds recorder.old whose) core.new (R.holds recorder.new whose) (R.caller_of whose) now.0 result }
+    requires { R.asks ≡ true → ForSome R.Whose
+        (λ whose H. StandsAt core.old (R.holds recorder.old whose) now.0 H) }
+    ensures { (whose : R.Whose) → NotesEach (λ H. silent_nodes core.old.config H now.0)
+        (λ n. change.Suspected n now) core.old (R.holds recorder.old whose) core.new
+        (R.holds recorder.new whose) (R.caller_of whose) now.0 result }
 {
     history_laws();
     let mut count: u32 = 0;
@@ -81,8 +92,11 @@ fn suspect_nodes<R: Recorder>(core: &mut HubCore, recorder: &mut R, now: Moment)
 
 /// Times out each request whose deadline is reached, and tells how many there were.
 fn time_out_requests<R: Recorder>(core: &mut HubCore, recorder: &mut R, now: Moment) -> u32
-    requires { R.asks ≡ true → ForSome R.Whose (λ whose H. StandsAt core.old (R.holds recorder.old whose) now.0 H) }
-    ensures { (whose : R.Whose) → NotesEach (λ H. overdue_requests H now.0) (λ r. change.TimedOut r now) core.old (R.holds recorder.old whose) core.new (R.holds recorder.new whose) (R.caller_of whose) now.0 result }
+    requires { R.asks ≡ true → ForSome R.Whose
+        (λ whose H. StandsAt core.old (R.holds recorder.old whose) now.0 H) }
+    ensures { (whose : R.Whose) → NotesEach (λ H. overdue_requests H now.0)
+        (λ r. change.TimedOut r now) core.old (R.holds recorder.old whose) core.new
+        (R.holds recorder.new whose) (R.caller_of whose) now.0 result }
 {
     history_laws();
     let mut count: u32 = 0;
@@ -98,8 +112,11 @@ fn time_out_requests<R: Recorder>(core: &mut HubCore, recorder: &mut R, now: Mom
 
 /// Takes off each draining node that has no slot in use, and tells how many there were.
 fn remove_drained<R: Recorder>(core: &mut HubCore, recorder: &mut R, now: Moment) -> u32
-    requires { R.asks ≡ true → ForSome R.Whose (λ whose H. StandsAt core.old (R.holds recorder.old whose) now.0 H) }
-    ensures { (whose : R.Whose) → NotesEach (λ H. drained_nodes H) (λ n. change.Removed n now) core.old (R.holds recorder.old whose) core.new (R.holds recorder.new whose) (R.caller_of whose) now.0 result }
+    requires { R.asks ≡ true → ForSome R.Whose
+        (λ whose H. StandsAt core.old (R.holds recorder.old whose) now.0 H) }
+    ensures { (whose : R.Whose) → NotesEach (λ H. drained_nodes H) (λ n. change.Removed n now)
+        core.old (R.holds recorder.old whose) core.new (R.holds recorder.new whose)
+        (R.caller_of whose) now.0 result }
 {
     history_laws();
     let mut count: u32 = 0;
@@ -115,8 +132,11 @@ fn remove_drained<R: Recorder>(core: &mut HubCore, recorder: &mut R, now: Moment
 
 /// Clears each waiting request, and tells how many there were.
 fn clear_requests<R: Recorder>(core: &mut HubCore, recorder: &mut R, now: Moment) -> u32
-    requires { R.asks ≡ true → ForSome R.Whose (λ whose H. StandsAt core.old (R.holds recorder.old whose) now.0 H) }
-    ensures { (whose : R.Whose) → NotesEach (λ H. waiting_requests H) (λ r. change.Cleared r now) core.old (R.holds recorder.old whose) core.new (R.holds recorder.new whose) (R.caller_of whose) now.0 result }
+    requires { R.asks ≡ true → ForSome R.Whose
+        (λ whose H. StandsAt core.old (R.holds recorder.old whose) now.0 H) }
+    ensures { (whose : R.Whose) → NotesEach (λ H. waiting_requests H) (λ r. change.Cleared r now)
+        core.old (R.holds recorder.old whose) core.new (R.holds recorder.new whose)
+        (R.caller_of whose) now.0 result }
 {
     history_laws();
     let mut count: u32 = 0;

@@ -44,7 +44,8 @@ fn push_node(alloc: Global, text: &mut String, node: &NodeView) -> Result<(), No
 }
 
 fn push_names(alloc: Global, text: &mut String, node: &NodeView) -> Result<(), NoMemory>
-    ensures { OnOk result (string_bytes text.new ≡ string_bytes text.old ++ written_names node.now) }
+    ensures { OnOk result (string_bytes text.new
+        ≡ string_bytes text.old ++ written_names node.now) }
 {
     write!(text, "{{\"node\":{},\"name\":", node.node)?;
     text.push_str(json_text(alloc, node.registration.name.as_str())?.as_str())?;
@@ -54,7 +55,8 @@ fn push_names(alloc: Global, text: &mut String, node: &NodeView) -> Result<(), N
 }
 
 fn push_limits(text: &mut String, node: &NodeView) -> Result<(), NoMemory>
-    ensures { OnOk result (string_bytes text.new ≡ string_bytes text.old ++ written_limits node.now) }
+    ensures { OnOk result (string_bytes text.new
+        ≡ string_bytes text.old ++ written_limits node.now) }
 {
     write!(
         text,

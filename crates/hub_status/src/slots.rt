@@ -26,7 +26,8 @@ pub(crate) fn push_states(
 }
 
 fn push_state(text: &mut String, index: usize, state: &SlotState) -> Result<(), NoMemory>
-    ensures { OnOk result (string_bytes text.new ≡ string_bytes text.old ++ written_state index state.now) }
+    ensures { OnOk result (string_bytes text.new
+        ≡ string_bytes text.old ++ written_state index state.now) }
 {
     write!(
         text,
@@ -51,7 +52,8 @@ fn state_name(state: &SlotState) -> &'static str
 
 /// Ids are letters, digits, '-' and '_', so they need no escape.
 fn push_session(text: &mut String, state: &SlotState) -> Result<(), NoMemory>
-    ensures { OnOk result (string_bytes text.new ≡ string_bytes text.old ++ state_session state.now) }
+    ensures { OnOk result (string_bytes text.new
+        ≡ string_bytes text.old ++ state_session state.now) }
 {
     match state {
         SlotState::Busy(session) => {

@@ -63,7 +63,8 @@ impl HubTables {
         request: ReqNo,
         at: Moment,
     ) -> HubTables
-        ensures { (c : HubConfig) (H : List Entry) → EachStands H nodes slots requests sessions → IsNext c H node request at.0 → Stands c result H }
+        ensures { (c : HubConfig) (H : List Entry) → EachStands H nodes slots requests sessions →
+            IsNext c H node request at.0 → Stands c result H }
     {
         HubTables {
             nodes,

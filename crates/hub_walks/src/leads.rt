@@ -41,8 +41,11 @@ fn with_request<L: Ledger>(
     at: Moment,
     steps: &mut Steps<L>,
 ) -> Option<Assignment>
-    ensures answer { AllTell nodes.now slots.now requests.now (λ H. NoneBelow H first at.0 → is_waiting (place H number) ≡ true → IsMore H at.0 best number result) }
-    ensures cost { AllTell nodes.now slots.now requests.now (λ H. steps.new ≤ steps.old + length (choices_of H number) * groups_up H (nodes_of H)) }
+    ensures answer { AllTell nodes.now slots.now requests.now
+        (λ H. NoneBelow H first at.0 → is_waiting (place H number) ≡ true →
+        IsMore H at.0 best number result) }
+    ensures cost { AllTell nodes.now slots.now requests.now
+        (λ H. steps.new ≤ steps.old + length (choices_of H number) * groups_up H (nodes_of H)) }
 {
     if number < first {
         return best;
@@ -70,8 +73,13 @@ fn with_lead<L: Ledger>(
     at: Moment,
     steps: &mut Steps<L>,
 ) -> Option<Assignment>
-    ensures answer { AllTell nodes.now slots.now requests.now (λ H. NoneBelow H first at.0 → (leads : List ℕ) → LeadKinds H leads → list_any (nat_eq lead) leads ≡ true → (passed : List ℕ) → IsFound H at.0 passed best → IsFound H at.0 (passed ++ lead ∷ []) result) }
-    ensures cost { AllTell nodes.now slots.now requests.now (λ H. is_waiting (place H lead) ≡ true → steps.new ≤ steps.old + length (choices_of H lead) * groups_up H (nodes_of H)) }
+    ensures answer { AllTell nodes.now slots.now requests.now
+        (λ H. NoneBelow H first at.0 → (leads : List ℕ) → LeadKinds H leads →
+        list_any (nat_eq lead) leads ≡ true → (passed : List ℕ) → IsFound H at.0 passed best →
+        IsFound H at.0 (passed ++ lead ∷ []) result) }
+    ensures cost { AllTell nodes.now slots.now requests.now
+        (λ H. is_waiting (place H lead) ≡ true →
+        steps.new ≤ steps.old + length (choices_of H lead) * groups_up H (nodes_of H)) }
 {
     walk_laws();
     match requests.in_time_of(lead, at) {
@@ -101,8 +109,11 @@ pub(crate) fn best_of_leads<L: Ledger>(
     at: Moment,
     steps: &mut Steps<L>,
 ) -> Option<Assignment>
-    ensures answer { AllTell nodes.now slots.now requests.now (λ H. NoneBelow H first at.0 → LeadKinds H leads.now → IsFound H at.0 leads.now result) }
-    ensures cost { AllTell nodes.now slots.now requests.now (λ H. LeadKinds H leads.now → steps.new ≤ steps.old + choices_in H leads.now * groups_up H (nodes_of H)) }
+    ensures answer { AllTell nodes.now slots.now requests.now
+        (λ H. NoneBelow H first at.0 → LeadKinds H leads.now → IsFound H at.0 leads.now result) }
+    ensures cost { AllTell nodes.now slots.now requests.now
+        (λ H. LeadKinds H leads.now → steps.new
+        ≤ steps.old + choices_in H leads.now * groups_up H (nodes_of H)) }
 {
     let mut best = None;
     for lead in leads {

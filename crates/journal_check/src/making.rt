@@ -14,7 +14,8 @@ use std::alloc::Global;
 /// bytes than an entry may have. Where not all was written, what was written is a front of the journal, which for 7 and 10
 /// ends with an entry or the head, or is empty.
 pub fn make_journal<K: Sink>(alloc: Global, number: u64, output: &mut K) -> u8
-    ensures { MakeEnds number (written (K.taken output.old) (K.faults output.old)) (written (K.taken output.new) (K.faults output.new)) result }
+    ensures { MakeEnds number (written (K.taken output.old) (K.faults output.old))
+        (written (K.taken output.new) (K.faults output.new)) result }
 {
     match simulate(alloc, number) {
         Ok(simulated) => {

@@ -46,7 +46,8 @@ pub fn check_main<S: Source, K: Sink>(
         (written (K.taken output.old) (K.faults output.old)) (written (K.taken output.new) (K.faults output.new)) result }
     ensures made { (number : ℕ) → number < 2 ^ 64 → IsMake words.now number →
         MakeEnds number (written (K.taken output.old) (K.faults output.old)) (written (K.taken output.new) (K.faults output.new)) result }
-    ensures unread { (number : ℕ) → number < 2 ^ 64 → IsMake words.now number → input.new ≡ input.old }
+    ensures unread { (number : ℕ) → number < 2 ^ 64 → IsMake words.now number →
+        input.new ≡ input.old }
     ensures read { result ≡ 5 → Rose (S.faults input.old) (S.faults input.new) }
     ensures write { result ≡ 6 → Rose (K.faults output.old) (K.faults output.new) }
 {

@@ -39,8 +39,12 @@ fn status_of(why: Unwritten) -> u8
 
 /// Writes the head of a journal.
 fn put_head<K: Sink>(alloc: Global, config: &HubConfig, output: &mut K) -> Result<(), Unwritten>
-    ensures ok { OnOk result (PutsHead config.now (written (K.taken output.old) (K.faults output.old)) (written (K.taken output.new) (K.faults output.new))) }
-    ensures stopped { IfErr result (λ why. StopsAtHead config.now why (written (K.taken output.old) (K.faults output.old)) (written (K.taken output.new) (K.faults output.new))) }
+    ensures ok { OnOk result (PutsHead config.now
+        (written (K.taken output.old) (K.faults output.old))
+        (written (K.taken output.new) (K.faults output.new))) }
+    ensures stopped { IfErr result (λ why.
+        StopsAtHead config.now why (written (K.taken output.old) (K.faults output.old))
+        (written (K.taken output.new) (K.faults output.new))) }
 {
     match write_head(alloc, config) {
         Ok(head) => match write_all(output, head.as_bytes()) {
@@ -53,8 +57,11 @@ fn put_head<K: Sink>(alloc: Global, config: &HubConfig, output: &mut K) -> Resul
 
 /// Writes an entry behind what was written.
 fn put_entry<K: Sink>(alloc: Global, entry: &Entry, output: &mut K) -> Result<(), Unwritten>
-    ensures ok { OnOk result (Puts entry.now (written (K.taken output.old) (K.faults output.old)) (written (K.taken output.new) (K.faults output.new))) }
-    ensures stopped { IfErr result (λ why. StopsAt entry.now why (written (K.taken output.old) (K.faults output.old)) (written (K.taken output.new) (K.faults output.new))) }
+    ensures ok { OnOk result (Puts entry.now (written (K.taken output.old) (K.faults output.old))
+        (written (K.taken output.new) (K.faults output.new))) }
+    ensures stopped { IfErr result (λ why.
+        StopsAt entry.now why (written (K.taken output.old) (K.faults output.old))
+        (written (K.taken output.new) (K.faults output.new))) }
 {
     match write_entry(alloc, entry) {
         Ok(bytes) => match write_all(output, bytes.as_bytes()) {
@@ -74,7 +81,9 @@ pub(crate) fn write_journal<K: Sink>(
     entries: &[Entry],
     output: &mut K,
 ) -> u8
-    ensures { WriteEnds config.now (history_of entries.now) (written (K.taken output.old) (K.faults output.old)) (written (K.taken output.new) (K.faults output.new)) result }
+    ensures { WriteEnds config.now (history_of entries.now)
+        (written (K.taken output.old) (K.faults output.old))
+        (written (K.taken output.new) (K.faults output.new)) result }
 {
     if let Err(why) = put_head(alloc, config, output) {
         return status_of(why);

@@ -23,7 +23,8 @@ fn same_text(a: &Text, b: &Text) -> bool
 
 /// The first text that stands before, and its earlier place.
 fn first_twice(texts: &[Text]) -> Option<(usize, usize)>
-    ensures { MatchOption result (Distinct texts.now (length texts.now)) (λ p. Twice texts.now p.0 p.1) }
+    ensures { MatchOption result (Distinct texts.now (length texts.now))
+        (λ p. Twice texts.now p.0 p.1) }
 {
     for j in 0..texts.len() {
         for i in 0..j {

@@ -26,7 +26,8 @@ pub(crate) fn spaces_end(text: &[u8], at: usize) -> usize
 
 /// The value's two places.
 fn scan(text: &[u8]) -> Result<(usize, usize), JsonFault>
-    ensures exact { IfOk result (λ p. (p.0 ≡ space_len text.now) × (as_result (whole text.now) ≡ Ok p.1)) }
+    ensures exact { IfOk result (λ p. (p.0 ≡ space_len text.now)
+        × (as_result (whole text.now) ≡ Ok p.1)) }
     ensures bounds { IfOk result (λ p. (p.0 ≤ p.1) × (p.1 ≤ length text.now) × (p.1 < 2 ^ 64)) }
     ensures err { IfErr result (λ e. as_result (whole text.now) ≡ Err e) }
 {
@@ -47,7 +48,8 @@ pub fn cut(text: &[u8]) -> Result<Span<'_>, JsonFault>
     // Each refusal is where the text stops, or its bytes are not UTF-8.
     ensures refused { IfErr result (Refuses text.now) }
     // Each JSON text within 127 levels is cut.
-    ensures only { (before : List ℕ) (v : Tree) (after : List ℕ) → IsUtf8 text.now → IsText text.now before v after → IsOk result }
+    ensures only { (before : List ℕ) (v : Tree) (after : List ℕ) → IsUtf8 text.now →
+        IsText text.now before v after → IsOk result }
 {
     match std::str::from_utf8(text) {
         Err(_) => Err(JsonFault::NotUtf8),

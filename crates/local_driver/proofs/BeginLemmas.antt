@@ -166,39 +166,39 @@ all_lacking done own x y = all_lack done own x (lacking own y)
 begins_after : (nodes rest : List ℕ) (steps more : List Step) → Beaten nodes steps → Begins rest more → Begins (nodes ++ rest) (steps ++ more)
 begins_after _ rest _ more none_beaten y = y
 begins_after _ rest _ more (beats_one nodes steps node at reply x) y =
-    subst (λ (ns : List ℕ). Begins ns ((steps ++ Called (Call.beat node) at (Some reply) ∷ []) ++ more)) (sym (append_assoc nodes (node ∷ []) rest))
-    (subst (λ (s : List Step). Begins (nodes ++ (node ∷ rest)) s) (sym (append_assoc steps (Called (Call.beat node) at (Some reply) ∷ []) more))
-    (begins_after nodes (node ∷ rest) steps (Called (Call.beat node) at (Some reply) ∷ more) x (beaten node at reply y)))
+    subst (λ (ns : List ℕ). Begins ns ((steps ++ Called (Call.beat node None) at (Some reply) ∷ []) ++ more)) (sym (append_assoc nodes (node ∷ []) rest))
+    (subst (λ (s : List Step). Begins (nodes ++ (node ∷ rest)) s) (sym (append_assoc steps (Called (Call.beat node None) at (Some reply) ∷ []) more))
+    (begins_after nodes (node ∷ rest) steps (Called (Call.beat node None) at (Some reply) ∷ more) x (beaten node at reply y)))
 
 lacks_after : (nodes rest : List ℕ) (steps more : List Step) → Beaten nodes steps → BeginLacks rest more → BeginLacks (nodes ++ rest) (steps ++ more)
 lacks_after _ rest _ more none_beaten y = y
 lacks_after _ rest _ more (beats_one nodes steps node at reply x) y =
-    subst (λ (ns : List ℕ). BeginLacks ns ((steps ++ Called (Call.beat node) at (Some reply) ∷ []) ++ more)) (sym (append_assoc nodes (node ∷ []) rest))
-    (subst (λ (s : List Step). BeginLacks (nodes ++ (node ∷ rest)) s) (sym (append_assoc steps (Called (Call.beat node) at (Some reply) ∷ []) more))
-    (lacks_after nodes (node ∷ rest) steps (Called (Call.beat node) at (Some reply) ∷ more) x (behind_beat node at reply y)))
+    subst (λ (ns : List ℕ). BeginLacks ns ((steps ++ Called (Call.beat node None) at (Some reply) ∷ []) ++ more)) (sym (append_assoc nodes (node ∷ []) rest))
+    (subst (λ (s : List Step). BeginLacks (nodes ++ (node ∷ rest)) s) (sym (append_assoc steps (Called (Call.beat node None) at (Some reply) ∷ []) more))
+    (lacks_after nodes (node ∷ rest) steps (Called (Call.beat node None) at (Some reply) ∷ more) x (behind_beat node at reply y)))
 
 module _ {N C : Type 0} (gives : N → List ℕ → Ask → Came → N → Type 0) (tells : C → Tick → ℕ → C → Type 0) where
   pub beaten_none : (w : World N C) → WentBy gives tells (Beaten []) w w
   beaten_none w = record { steps = []; are = none_beaten; went = went_none gives tells w }
 
   beaten_more : (u : World N C) (nodes : List ℕ) (node : ℕ) (h k : HubView) (n : N) (at : ℕ) (m m' : C) (reply : Reply) (time time' : ClockView) →
-      WentBy gives tells (Beaten nodes) u (world_of h n m time) → Serves h (Call.beat node) at (Some reply) k → Ticks tells m at m' time time' →
+      WentBy gives tells (Beaten nodes) u (world_of h n m time) → Serves h (Call.beat node None) at (Some reply) k → Ticks tells m at m' time time' →
       WentBy gives tells (Beaten (nodes ++ node ∷ [])) u (world_of k n m' time')
   beaten_more u nodes node h k n at m m' reply time time' p serves ticks = record {
-    steps = p.steps ++ Called (Call.beat node) at (Some reply) ∷ [];
+    steps = p.steps ++ Called (Call.beat node None) at (Some reply) ∷ [];
     are = beats_one nodes p.steps node at reply p.are;
-    went = went_more gives tells u (world_of h n m time) (world_of k n m' time') p.steps (Called (Call.beat node) at (Some reply) ∷ []) p.went
-        (went_call gives tells h k n (Call.beat node) at (Some reply) m m' time time' serves ticks);
+    went = went_more gives tells u (world_of h n m time) (world_of k n m' time') p.steps (Called (Call.beat node None) at (Some reply) ∷ []) p.went
+        (went_call gives tells h k n (Call.beat node None) at (Some reply) m m' time time' serves ticks);
   }
 
   beaten_lacks : (u : World N C) (nodes rest : List ℕ) (node : ℕ) (h : HubView) (n : N) (at : ℕ) (m m' : C) (time time' : ClockView) →
       WentBy gives tells (Beaten nodes) u (world_of h n m time) → Ticks tells m at m' time time' →
       WentBy gives tells (BeginLacks (nodes ++ (node ∷ rest))) u (world_of h n m' time')
   beaten_lacks u nodes rest node h n at m m' time time' p ticks = record {
-    steps = p.steps ++ Called (Call.beat node) at None ∷ [];
-    are = lacks_after nodes (node ∷ rest) p.steps (Called (Call.beat node) at None ∷ []) p.are (beat_lacks node at);
-    went = went_more gives tells u (world_of h n m time) (world_of h n m' time') p.steps (Called (Call.beat node) at None ∷ []) p.went
-        (went_call gives tells h h n (Call.beat node) at None m m' time time' (serves_not h (Call.beat node) at refl) ticks);
+    steps = p.steps ++ Called (Call.beat node None) at None ∷ [];
+    are = lacks_after nodes (node ∷ rest) p.steps (Called (Call.beat node None) at None ∷ []) p.are (beat_lacks node at);
+    went = went_more gives tells u (world_of h n m time) (world_of h n m' time') p.steps (Called (Call.beat node None) at None ∷ []) p.went
+        (went_call gives tells h h n (Call.beat node None) at None m m' time time' (serves_not h (Call.beat node None) at refl) ticks);
   }
 
   -- ---- all of it
@@ -307,18 +307,18 @@ err_then : {A E P Q : Type 0} (r : Result A E) → (P → Q) → OnErr r P → O
 err_then (Ok a) f h = tt
 err_then (Err e) f h = f h
 
-beat_replied : (b : Beating) (old : HubView) (node at : ℕ) (new : HubView) → Serves old (Call.beat node) at (beating_reply b) new →
-    (reply : Reply) × Serves old (Call.beat node) at (Some reply) new
+beat_replied : (b : Beating) (old : HubView) (node at : ℕ) (new : HubView) → Serves old (Call.beat node None) at (beating_reply b) new →
+    (reply : Reply) × Serves old (Call.beat node None) at (Some reply) new
 beat_replied beating.Beaten old node at new x = (Reply.beaten, x)
 beat_replied beating.NoNode old node at new x = (Reply.no_node, x)
 
 module _ {N C : Type 0} (gives : N → List ℕ → Ask → Came → N → Type 0) (tells : C → Tick → ℕ → C → Type 0) where
   -- one more node gave its sign of life
   pub beats_on : (own : List ℕ) (i d : ℕ) (b : Beating) (u : World N C) (h roomed k : HubView) (n : N) (at : ℕ) (m m' : C) (time time' : ClockView) → i < length own →
-      WentBy gives tells (Beaten (take i own)) u (world_of h n m time) → roomed ≡ record h { room = true } → ServesLocally roomed (Call.beat (get_or own i d)) at (beating_reply b) k →
+      WentBy gives tells (Beaten (take i own)) u (world_of h n m time) → roomed ≡ record h { room = true } → ServesLocally roomed (Call.beat (get_or own i d) None) at (beating_reply b) k →
       Ticks tells m at m' time time' → WentBy gives tells (Beaten (take (i + 1) own)) u (world_of k n m' time')
   beats_on own i d b u h roomed k n at m m' time time' lt p made serves ticks =
-      let told = beat_replied b h (get_or own i d) at k (serves_roomed h roomed k (Call.beat (get_or own i d)) at (beating_reply b) made serves) in
+      let told = beat_replied b h (get_or own i d) at k (serves_roomed h roomed k (Call.beat (get_or own i d) None) at (beating_reply b) made serves) in
       subst (λ (ns : List ℕ). WentBy gives tells (Beaten ns) u (world_of k n m' time')) (sym (take_next own i d lt))
       (beaten_more gives tells u (take i own) (get_or own i d) h k n at m m' told.0 time time' p told.1 ticks)
 

@@ -60,7 +60,7 @@ may_make H (Call.poll t) has right = record { is_good = has.0.0; is_true = has.0
 may_make H (Call.bind r session caps) has right = record { is_good = has.0.0; is_true = has.0.1 }
 may_make H (Call.fail r why) has right = record { is_good = both _ _ has.0.0 right; is_true = has.0.1 }
 may_make H (Call.freed c) has right = record { is_good = has.0; is_true = tt }
-may_make H (Call.beat node) has right = record { is_good = refl; is_true = tt }
+may_make H (Call.beat node name) has right = record { is_good = refl; is_true = tt }
 may_make H (Call.drain node) has right = record { is_good = refl; is_true = tt }
 may_make H (Call.remove node) has right = record { is_good = refl; is_true = tt }
 may_make H (Call.enqueue choices) has right = tt

@@ -278,7 +278,7 @@ step_is answer call at e = refl
 polls_newest : (H : List Entry) (call : Call) → HasAll H (call_tokens call) → PollsNewest H call
 polls_newest H (Call.poll t) has = has.0.2
 polls_newest H (Call.register node) has = tt
-polls_newest H (Call.beat node) has = tt
+polls_newest H (Call.beat node name) has = tt
 polls_newest H (Call.drain node) has = tt
 polls_newest H (Call.remove node) has = tt
 polls_newest H (Call.enqueue choices) has = tt

@@ -1,5 +1,5 @@
 -- What goes before a request, as it is done step by step.
-use Rattle.std.specs.Prelude.{ℕ, Bool, true, false, List, [], ◌∷◌, ◌++◌, Some}
+use Rattle.std.specs.Prelude.{ℕ, Bool, true, false, List, [], ◌∷◌, ◌++◌, None, Some}
 use Rattle.grid_types.specs.Calls.{Call, Reply}
 use Rattle.node_client.specs.Steps.{Step, Called}
 use Rattle.conn_script.specs.Begin.{Expires, ExpireLacks}
@@ -8,7 +8,7 @@ use Rattle.conn_script.specs.Begin.{Expires, ExpireLacks}
 pub data Beaten : List ℕ → List Step → Type 0 where
   none_beaten : Beaten [] []
   beats_one : (nodes : List ℕ) (steps : List Step) (node at : ℕ) (reply : Reply) → Beaten nodes steps →
-      Beaten (nodes ++ node ∷ []) (steps ++ Called (Call.beat node) at (Some reply) ∷ [])
+      Beaten (nodes ++ node ∷ []) (steps ++ Called (Call.beat node None) at (Some reply) ∷ [])
 
 -- the idle sessions were ended, or memory was wanted there
 abbrev pub ExpiresOrLacks : Bool → List Step → Type 0

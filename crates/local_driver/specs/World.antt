@@ -13,7 +13,7 @@ use Rattle.node_client.specs.Steps.{Step, Called, Spent, Exchanged, Paused}
 
 -- a call of which each entry has its room taken ahead, and which has no answer of its own where there is none
 abbrev pub wants_room : Call → Bool
-wants_room (Call.beat node) = true
+wants_room (Call.beat node name) = true
 wants_room (Call.drain node) = true
 wants_room (Call.remove node) = true
 wants_room (Call.touch session binding) = true

@@ -11,7 +11,7 @@ mod sessions;
 use conn_script::{HubAnswer, HubCall};
 use grid_types::Moment;
 use hub_core::LocalHub;
-use nodes::{beat, drain, register, remove};
+use nodes::{beat, beat_as, drain, register, remove};
 use requests::{bind, clear, enqueue, fail, poll};
 use sessions::{end, freed, lookup, touch, view};
 
@@ -23,6 +23,7 @@ pub fn make(hub: &mut LocalHub, call: HubCall, at: Moment) -> HubAnswer
     match call {
         HubCall::Register(node) => register(hub, node, at),
         HubCall::Beat(node) => beat(hub, node, at),
+        HubCall::BeatAs(node, name) => beat_as(hub, node, &name, at),
         HubCall::Drain(node) => drain(hub, node, at),
         HubCall::Remove(node) => remove(hub, node, at),
         HubCall::Enqueue(choices) => enqueue(hub, choices, at),

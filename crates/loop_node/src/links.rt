@@ -84,7 +84,8 @@ fn is_at(address: &[u8], node: &LoopNode) -> bool
 
 /// The place of the node at the address.
 fn place_of(nodes: &[LoopNode], address: &[u8]) -> Option<usize>
-    ensures { MatchOption result (is_reached address.now nodes.now ≡ false) (IsReached address.now nodes.now) }
+    ensures { MatchOption result (is_reached address.now nodes.now ≡ false)
+        (IsReached address.now nodes.now) }
 {
     for (index, node) in nodes.iter().enumerate() {
         if is_at(address, node) {
@@ -105,7 +106,8 @@ fn ask_at(
     ensures answers { IfOk result (λ reply. (address : List ℕ) → IsReached address nodes.old.items place
         → OneAnswers nodes.old.items address (ask_of request.now) reply nodes.new.items) }
     ensures err { OnErr result (nodes.new.items ≡ nodes.old.items) }
-    ensures short { list_all short_texts nodes.old.items ≡ true → list_all short_texts nodes.new.items ≡ true }
+    ensures short { list_all short_texts nodes.old.items ≡ true →
+        list_all short_texts nodes.new.items ≡ true }
     ensures within { list_all short_texts nodes.old.items ≡ true
         → IfOk result (λ reply. IsTrue (is_within (exchange.Http reply))) }
 {

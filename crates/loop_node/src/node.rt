@@ -158,10 +158,12 @@ impl LoopNode {
         alloc: Global,
         request: &NodeRequest<'_>,
     ) -> Result<NodeReply, NoMemory>
-        ensures answers { IfOk result (λ reply. Answers self.old (ask_of request.now) reply self.new) }
+        ensures answers { IfOk result (λ reply.
+            Answers self.old (ask_of request.now) reply self.new) }
         ensures err { OnErr result (self.new ≡ self.old) }
         // A reply is as small as one that comes over a link.
-        ensures within { IfOk result (λ reply. IsTrue (short_texts self.old) → IsTrue (is_within (exchange.Http reply))) }
+        ensures within { IfOk result (λ reply. IsTrue (short_texts self.old) →
+            IsTrue (is_within (exchange.Http reply))) }
     {
         // What the type keeps of them bounds the reply.
         let _sessions = self.sessions.as_slice();
@@ -169,7 +171,8 @@ impl LoopNode {
     }
 
     fn reply_to(&mut self, alloc: Global, request: &NodeRequest<'_>) -> Result<NodeReply, NoMemory>
-        ensures answers { IfOk result (λ reply. Answers self.old (ask_of request.now) reply self.new) }
+        ensures answers { IfOk result (λ reply.
+            Answers self.old (ask_of request.now) reply self.new) }
         ensures err { OnErr result (self.new ≡ self.old) }
     {
         match asked(request.method, request.target) {
@@ -196,7 +199,8 @@ impl LoopNode {
     }
 
     fn start(&mut self, alloc: Global, body: &[u8]) -> Result<NodeReply, NoMemory>
-        ensures answers { IfOk result (λ reply. AnswersTo start_session self.old body.now (reply, self.new)) }
+        ensures answers { IfOk result (λ reply.
+            AnswersTo start_session self.old body.now (reply, self.new)) }
         ensures err { OnErr result (self.new ≡ self.old) }
     {
         match object_of(alloc, body) {
@@ -207,7 +211,8 @@ impl LoopNode {
     }
 
     fn start_session(&mut self, alloc: Global) -> Result<NodeReply, NoMemory>
-        ensures answers { IfOk result (λ reply. (reply, self.new) ≡ start_by self.old.refuses self.old) }
+        ensures answers { IfOk result (λ reply. (reply, self.new)
+            ≡ start_by self.old.refuses self.old) }
         ensures err { OnErr result (self.new ≡ self.old) }
     {
         if self.refuses > 0 {
@@ -247,7 +252,8 @@ impl LoopNode {
     }
 
     fn delete(&mut self, alloc: Global, id: &[u8]) -> Result<NodeReply, NoMemory>
-        ensures answers { IfOk result (λ reply. AnswersTo (delete_session id.now) self.old [] (reply, self.new)) }
+        ensures answers { IfOk result (λ reply.
+            AnswersTo (delete_session id.now) self.old [] (reply, self.new)) }
         ensures err { OnErr result (self.new ≡ self.old) }
     {
         match place_of(&self.sessions, id) {
@@ -261,7 +267,8 @@ impl LoopNode {
     }
 
     fn set_url(&mut self, alloc: Global, id: &[u8], body: &[u8]) -> Result<NodeReply, NoMemory>
-        ensures answers { IfOk result (λ reply. AnswersTo (set_url id.now) self.old body.now (reply, self.new)) }
+        ensures answers { IfOk result (λ reply.
+            AnswersTo (set_url id.now) self.old body.now (reply, self.new)) }
         ensures err { OnErr result (self.new ≡ self.old) }
     {
         match place_of(&self.sessions, id) {

@@ -17,7 +17,8 @@ const MAX_URL_JSON: usize = 16_777_206;
 /// The members of a value that is an object.
 fn object_in<'a>(alloc: Global, value: Span<'a>) -> Result<Option<MemberList<'a>>, NoMemory>
     requires { IsShown (part_of value) }
-    ensures { IfOk result (λ list. (v : Placed) → Shows (part_of value.entry) v → ShowsObject list (object_of v)) }
+    ensures { IfOk result (λ list. (v : Placed) → Shows (part_of value.entry) v →
+        ShowsObject list (object_of v)) }
 {
     match object_members(alloc, value) {
         Ok(list) => Ok(list),
@@ -28,7 +29,8 @@ fn object_in<'a>(alloc: Global, value: Span<'a>) -> Result<Option<MemberList<'a>
 
 /// The members of a body that is an object.
 pub(crate) fn object_of(alloc: Global, body: &[u8]) -> Result<Option<MemberList<'_>>, NoMemory>
-    ensures { IfOk result (λ list. (o : Option (List Member)) × ReadsObject body.now o × ShowsObject list o) }
+    ensures { IfOk result (λ list. (o : Option (List Member)) × ReadsObject body.now o
+        × ShowsObject list o) }
 {
     match cut(body) {
         Ok(value) => object_in(alloc, value),
@@ -39,7 +41,8 @@ pub(crate) fn object_of(alloc: Global, body: &[u8]) -> Result<Option<MemberList<
 /// The characters of a value that is a string.
 fn string_where(alloc: Global, found: Option<Span<'_>>) -> Result<Option<Text>, NoMemory>
     requires { IsFoundShown found }
-    ensures { IfOk result (λ t. (o : Option Placed) → ShowsFound found.entry o → t ≡ string_where o) }
+    ensures { IfOk result (λ t. (o : Option Placed) → ShowsFound found.entry o →
+        t ≡ string_where o) }
 {
     match found {
         Some(value) => match value.kind() {
@@ -69,7 +72,8 @@ fn fitting(alloc: Global, url: Option<Text>) -> Result<Option<Text>, NoMemory>
 
 /// The url that a body asks for.
 pub(crate) fn url_asked(alloc: Global, body: &[u8]) -> Result<Option<Text>, NoMemory>
-    ensures { IfOk result (λ url. (o : Option (List Member)) × ReadsObject body.now o × (url ≡ url_asked o)) }
+    ensures { IfOk result (λ url. (o : Option (List Member)) × ReadsObject body.now o
+        × (url ≡ url_asked o)) }
 {
     match object_of(alloc, body) {
         Ok(Some(members)) => {

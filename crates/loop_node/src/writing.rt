@@ -104,7 +104,8 @@ fn write_reply<L: Link>(
 
 /// What of the parts is still to come, in one piece.
 fn joined(alloc: Global, parts: Parts<'_>) -> Result<Bytes, NoMemory>
-    ensures { (all : List (List ℕ)) → HoldsParts parts.entry all → IfOk result (λ bytes. bytes ≡ joined all) }
+    ensures { (all : List (List ℕ)) → HoldsParts parts.entry all →
+        IfOk result (λ bytes. bytes ≡ joined all) }
 {
     let mut data = Vec::new(alloc);
     for part in parts {
@@ -121,7 +122,8 @@ fn reply_to<'a>(
     target: &'a [u8],
     body: &'a [u8],
 ) -> Result<NodeReply, NoMemory>
-    ensures answers { IfOk result (λ reply. Answers node.old (plain_ask method.now target.now body.now) reply node.new) }
+    ensures answers { IfOk result (λ reply.
+        Answers node.old (plain_ask method.now target.now body.now) reply node.new) }
     ensures err { OnErr result (node.new ≡ node.old) }
 {
     let request = NodeRequest {

@@ -46,8 +46,10 @@ fn place_for(rows: &mut Vec<Row>, free: &mut Vec<u32>, row: Row) -> u32
     requires room { vec_capacity rows.old ≡ ROOM }
     requires few { length free.old.items ≡ 0 → length rows.old.items < ROOM }
     requires inside { (p : ℕ) → 0 < times p free.old.items → p < length rows.old.items }
-    ensures places { (order : List ℕ) → IsRack rows.old.items order free.old.items → Places rows.old.items rows.new.items order result row free.new.items }
-    ensures room { (vec_capacity rows.new ≡ ROOM) × (vec_capacity free.new ≡ vec_capacity free.old) }
+    ensures places { (order : List ℕ) → IsRack rows.old.items order free.old.items →
+        Places rows.old.items rows.new.items order result row free.new.items }
+    ensures room { (vec_capacity rows.new ≡ ROOM)
+        × (vec_capacity free.new ≡ vec_capacity free.old) }
 {
     match free.pop() {
         Some(place) => {
@@ -97,7 +99,8 @@ impl Rack {
         let rows = self.rows.as_slice();
         self.order.as_slice().partition_point(
             |place: &u32| -> bool
-                ensures { result ≡ told_before session.entry.now (slice_get rows.entry.now place.now) }
+                ensures { result ≡ told_before session.entry.now
+                    (slice_get rows.entry.now place.now) }
             {
                 match rows.get(*place as usize) {
                     Some(row) => comes_before(row.session.as_bytes(), session.as_bytes()),

@@ -114,7 +114,8 @@ impl Carry {
     /// Whether it went on after it was out of memory: before its bind, in a bind, or in an exchange that
     /// ends a session.
     pub fn short(&self) -> bool
-        ensures { OfEach self.now (λ r place steps. result ≡ (met_want steps || gives_up_at place)) }
+        ensures { OfEach self.now (λ r place steps. result
+            ≡ (met_want steps || gives_up_at place)) }
     {
         self.short
     }
@@ -151,7 +152,8 @@ impl Carry {
     pub fn take_bind(&mut self) -> (Reservation, SessionId, Caps)
         requires { held self.old ≡ Some Kind.Bind }
         ensures takes { Takes self.old Kind.Bind self.new }
-        ensures call { OfEach self.old (λ r place steps. (r ≡ result.0) × (place ≡ at_bind result.1 result.2)) }
+        ensures call { OfEach self.old (λ r place steps. (r ≡ result.0)
+            × (place ≡ at_bind result.1 result.2)) }
         ensures tokens { carry_tokens self.old ≡ of_reservation result.0 ∷ carry_tokens self.new }
     {
         match std::mem::replace(&mut self.state, State::Binding) {
@@ -164,7 +166,8 @@ impl Carry {
     pub fn take_fail(&mut self) -> (Reservation, FailWhy)
         requires { held self.old ≡ Some Kind.Fail }
         ensures takes { Takes self.old Kind.Fail self.new }
-        ensures call { OfEach self.old (λ r place steps. (r ≡ result.0) × (place ≡ at_fail result.1)) }
+        ensures call { OfEach self.old (λ r place steps. (r ≡ result.0)
+            × (place ≡ at_fail result.1)) }
         ensures tokens { carry_tokens self.old ≡ of_reservation result.0 ∷ carry_tokens self.new }
         ensures cause { OfEach self.old (λ r place steps. IsTrue (is_start_failure result.1)) }
     {

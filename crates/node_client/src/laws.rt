@@ -10,7 +10,8 @@ use json_spans::{a_text_is_read_one_way, a_text_is_refused_one_way};
 
 /// A reply says one thing, however it is read.
 pub fn replies_say_one_thing()
-    ensures { (status : ℕ) (body : List ℕ) (s t : Said) → Says status body s → Says status body t → s ≡ t }
+    ensures { (status : ℕ) (body : List ℕ) (s t : Said) → Says status body s → Says status body t →
+        s ≡ t }
 {
     // Laws of the text below, which do nothing either.
     a_text_is_read_one_way();

@@ -96,7 +96,8 @@ impl NodeRow {
 
     /// Suspect while the node is suspect, else its base.
     fn standing(&self) -> Standing
-        ensures { result ≡ (if stands_registered (Some self.now.base) && self.now.suspected then standing.Suspect else self.now.base) }
+        ensures { result ≡ (if stands_registered (Some self.now.base) && self.now.suspected then
+            standing.Suspect else self.now.base) }
     {
         if self.is_suspect() {
             Standing::Suspect
@@ -114,7 +115,8 @@ impl NodeRow {
 
     /// Whether as many sessions were bound on the node as it drains after.
     fn is_spent(&self) -> bool
-        ensures { (count : ℕ) → self.now.bound ≡ min count most_bound → result ≡ is_at_limit self.now.registration.drain_after count }
+        ensures { (count : ℕ) → self.now.bound ≡ min count most_bound →
+            result ≡ is_at_limit self.now.registration.drain_after count }
     {
         match self.registration.drain_after {
             Some(limit) => self.bound == u64::from(limit),
@@ -206,7 +208,8 @@ impl NodeTable {
         registration: &Registration,
         at: Moment,
     ) -> Result<(), NoMemory>
-        ensures stands { OnOk result ((caller : ℕ) → Follows Stands self.old self.new caller (change.Registered node registration.now at)) }
+        ensures stands { OnOk result ((caller : ℕ) →
+            Follows Stands self.old self.new caller (change.Registered node registration.now at)) }
         ensures refused { OnErr result (Keeps Stands self.old self.new) }
     {
         history_laws();
@@ -240,7 +243,8 @@ impl NodeTable {
 
     /// A node was silent, and takes no new session before its next sign. It takes no memory.
     pub fn suspected(&mut self, node: NodeNo, _at: Moment)
-        ensures { (caller : ℕ) → Follows Stands self.old self.new caller (change.Suspected node _at) }
+        ensures { (caller : ℕ) → Follows Stands self.old self.new caller
+            (change.Suspected node _at) }
     {
         history_laws();
         if let Some(silent) = self.nodes.get_mut(&node) {
@@ -250,7 +254,8 @@ impl NodeTable {
 
     /// A node takes no new session from now on. It takes no memory.
     pub fn draining(&mut self, node: NodeNo, _at: Moment)
-        ensures { (caller : ℕ) → Follows Stands self.old self.new caller (change.Draining node _at) }
+        ensures { (caller : ℕ) → Follows Stands self.old self.new caller
+            (change.Draining node _at) }
     {
         history_laws();
         self.some_drain = true;
@@ -301,7 +306,8 @@ impl NodeTable {
         _choice: u16,
         _at: Moment,
     ) -> Result<(), NoMemory>
-        ensures stands { OnOk result ((caller : ℕ) → Follows Stands self.old self.new caller (change.Reserved _request slot _choice _at)) }
+        ensures stands { OnOk result ((caller : ℕ) →
+            Follows Stands self.old self.new caller (change.Reserved _request slot _choice _at)) }
         ensures refused { OnErr result (Keeps Stands self.old self.new) }
         ensures done { HasRoom self.old → IsOk result }
     {
@@ -325,7 +331,8 @@ impl NodeTable {
         _caps: &Caps,
         _at: Moment,
     )
-        ensures { (caller : ℕ) → Follows Stands self.old self.new caller (change.Bound _request slot _session _caps.now _at) }
+        ensures { (caller : ℕ) → Follows Stands self.old self.new caller
+            (change.Bound _request slot _session _caps.now _at) }
     {
         history_laws();
         if let Some(used) = self.nodes.get_mut(&slot.node) {
@@ -472,7 +479,8 @@ impl NodeTable {
 
     /// How the node stands. It takes no memory.
     pub fn standing(&self, node: NodeNo) -> Option<Standing>
-        ensures listed { Tells Stands self.now (λ H. is_listed H node ≡ true → result ≡ standing_of H node) }
+        ensures listed { Tells Stands self.now
+            (λ H. is_listed H node ≡ true → result ≡ standing_of H node) }
         ensures unknown { knows self.now node ≡ false → result ≡ None }
     {
         history_laws();
@@ -481,7 +489,8 @@ impl NodeTable {
 
     /// Whether as many sessions were bound on a listed node as it drains after. It takes no memory.
     pub fn is_spent(&self, node: NodeNo) -> bool
-        ensures listed { Tells Stands self.now (λ H. is_listed H node ≡ true → result ≡ is_spent H node) }
+        ensures listed { Tells Stands self.now
+            (λ H. is_listed H node ≡ true → result ≡ is_spent H node) }
         ensures unknown { knows self.now node ≡ false → result ≡ false }
     {
         history_laws();
@@ -494,7 +503,9 @@ impl NodeTable {
     /// Whether the sessions that were bound on a listed node and its held slots, so many, are together fewer than it
     /// drains after. It takes no memory.
     pub fn has_sessions_left(&self, node: NodeNo, held: u16) -> bool
-        ensures listed { Tells Stands self.now (λ H. is_listed H node ≡ true → held ≡ held_count H node → result ≡ has_sessions_left H node) }
+        ensures listed { Tells Stands self.now
+            (λ H. is_listed H node ≡ true → held ≡ held_count H node →
+            result ≡ has_sessions_left H node) }
         ensures unknown { knows self.now node ≡ false → result ≡ false }
     {
         history_laws();
@@ -506,7 +517,8 @@ impl NodeTable {
 
     /// The moment of the node's last sign. It takes no memory.
     pub fn beat(&self, node: NodeNo) -> Option<Moment>
-        ensures listed { Tells Stands self.now (λ H. is_listed H node ≡ true → result ≡ Some (record { 0 = beat_of H node })) }
+        ensures listed { Tells Stands self.now
+            (λ H. is_listed H node ≡ true → result ≡ Some (record { 0 = beat_of H node })) }
         ensures unknown { knows self.now node ≡ false → result ≡ None }
     {
         history_laws();
@@ -515,7 +527,8 @@ impl NodeTable {
 
     /// What the node said of itself. It takes no memory.
     pub fn registration(&self, node: NodeNo) -> Option<&Registration>
-        ensures listed { Tells Stands self.now (λ H. is_listed H node ≡ true → option_copied result ≡ registration_of H node) }
+        ensures listed { Tells Stands self.now
+            (λ H. is_listed H node ≡ true → option_copied result ≡ registration_of H node) }
         ensures unknown { knows self.now node ≡ false → result ≡ None }
     {
         Some(&self.nodes.get(&node)?.registration)
@@ -549,7 +562,8 @@ impl NodeTable {
 
     /// The node at this place and the moment of its last sign, where it is registered.
     pub fn sign_at(&self, index: usize) -> Option<(NodeNo, Moment)>
-        ensures { Tells Stands self.now (λ H. result ≡ option_map (signed H) (kept (is_registered H) (slice_get (known self.now) index))) }
+        ensures { Tells Stands self.now (λ H. result
+            ≡ option_map (signed H) (kept (is_registered H) (slice_get (known self.now) index))) }
     {
         history_laws();
         let (node, row) = self.nodes.get_index(index)?;
@@ -562,7 +576,8 @@ impl NodeTable {
 
     /// The same where it is not suspect.
     pub fn heard_at(&self, index: usize) -> Option<(NodeNo, Moment)>
-        ensures { Tells Stands self.now (λ H. result ≡ option_map (signed H) (kept (is_trusted H) (slice_get (known self.now) index))) }
+        ensures { Tells Stands self.now (λ H. result
+            ≡ option_map (signed H) (kept (is_trusted H) (slice_get (known self.now) index))) }
     {
         history_laws();
         let (node, row) = self.nodes.get_index(index)?;
@@ -575,7 +590,8 @@ impl NodeTable {
 
     /// The node at this place, where it drains.
     pub fn draining_at(&self, index: usize) -> Option<NodeNo>
-        ensures { Tells Stands self.now (λ H. result ≡ kept (is_draining H) (slice_get (known self.now) index)) }
+        ensures { Tells Stands self.now (λ H. result
+            ≡ kept (is_draining H) (slice_get (known self.now) index)) }
     {
         history_laws();
         let (node, row) = self.nodes.get_index(index)?;

@@ -10,5 +10,6 @@ mod play;
 mod words;
 
 pub use laws::words_say_one_play;
+pub use nodes::{is_node, read_node};
 pub use play::{PlayNode, PlayNodes, PlayWords, WordsFault};
 pub use words::{read_numbered, read_play, read_simulate};

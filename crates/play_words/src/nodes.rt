@@ -9,7 +9,8 @@ use crate::play::{PlayNode, PlayNodes, WordsFault};
 use grid_types::{MOST_SLOTS, Text};
 use std::alloc::Global;
 
-fn read_node(alloc: Global, word: &str, slots: &str) -> Result<PlayNode, WordsFault>
+/// The node that the two words say: its description, and its slots. Refused exactly where they say none.
+pub fn read_node(alloc: Global, word: &str, slots: &str) -> Result<PlayNode, WordsFault>
     ensures ok { IfOk result (λ node. SaysNode word.now slots.now node) }
     ensures refused { IfErr result (λ f. f ≡ WordsFault.Refused →
         (node : PlayNode) → ¬ SaysNode word.now slots.now node) }
@@ -28,8 +29,8 @@ fn read_node(alloc: Global, word: &str, slots: &str) -> Result<PlayNode, WordsFa
     })
 }
 
-/// Whether the two words say a node.
-fn is_node(word: &str, slots: &str) -> bool
+/// Whether the two words say a node. It takes no memory.
+pub fn is_node(word: &str, slots: &str) -> bool
     ensures some { result ≡ true → (node : PlayNode) × SaysNode word.now slots.now node }
     ensures none { result ≡ false → (node : PlayNode) → ¬ SaysNode word.now slots.now node }
 {

@@ -34,7 +34,8 @@ struct Parts<'a> {
 fn parts_of(words: &[Text]) -> Option<Parts<'_>>
     ensures some { IfSome result (λ p.
         AreParts words.now p.nodes.now (option_copied p.refusal) (option_copied p.timeout)) }
-    ensures none { IfNone result ((config : HubConfig) (nodes : List PlayNode) → ¬ Plays words.now config nodes) }
+    ensures none { IfNone result ((config : HubConfig) (nodes : List PlayNode) →
+        ¬ Plays words.now config nodes) }
 {
     let [play, others @ ..] = words else {
         return None;
@@ -56,7 +57,8 @@ fn read_crew(alloc: Global, words: &[Text]) -> Result<PlayNodes, WordsFault>
     ensures ok { IfOk result (λ nodes. SaysCrew words.now nodes) }
     ensures refused { IfErr result (λ f. f ≡ WordsFault.Refused →
         (nodes : List PlayNode) → ¬ SaysCrew words.now nodes) }
-    ensures memory { IfErr result (λ f. f ≡ WordsFault.Memory → (nodes : List PlayNode) × SaysCrew words.now nodes) }
+    ensures memory { IfErr result (λ f. f ≡ WordsFault.Memory → (nodes : List PlayNode)
+        × SaysCrew words.now nodes) }
 {
     if words.is_empty() || words.len() > MOST_NODE_WORDS {
         return Err(WordsFault::Refused);
@@ -105,7 +107,8 @@ pub fn read_play(alloc: Global, words: &[Text]) -> Result<PlayWords, WordsFault>
 /// The number of two words: a name, and a decimal number below 2^64 without a sign or a leading zero.
 pub fn read_numbered(words: &[Text], name: &str) -> Option<u64>
     ensures some { IfSome result (λ number. IsNumbered words.now name.now number) }
-    ensures none { IfNone result ((number : ℕ) → number < 2 ^ 64 → ¬ IsNumbered words.now name.now number) }
+    ensures none { IfNone result ((number : ℕ) → number < 2 ^ 64 →
+        ¬ IsNumbered words.now name.now number) }
 {
     let [first, number] = words else {
         return None;

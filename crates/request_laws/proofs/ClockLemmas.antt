@@ -25,7 +25,7 @@ use Rattle.grid_types.specs.Permitted.{deadline_at, is_named, is_supported, most
 use Rattle.grid_types.specs.Capabilities.{request_bytes}
 use Rattle.grid_types.specs.Tokens.{Closing, Ticket}
 use Rattle.grid_types.specs.Calls.{Call, Reply}
-use Rattle.grid_types.specs.HubAnswers.{Answer, after_call, answer, bound, bound_by, refusal_of, closes, dispatched, drain_after_bind, drained_nodes, enqueued, expired_by, hub, idle_bindings, is_binding, lapsed_nodes, lapses, moment, overdue_requests, polled, polled_open, register_by, removals, silent_nodes, suspicions, time_outs}
+use Rattle.grid_types.specs.HubAnswers.{Answer, after_call, answer, is_beat_of, bound, bound_by, refusal_of, closes, dispatched, drain_after_bind, drained_nodes, enqueued, expired_by, hub, idle_bindings, is_binding, lapsed_nodes, lapses, moment, overdue_requests, polled, polled_open, register_by, removals, silent_nodes, suspicions, time_outs}
 use Rattle.grid_types.specs.Tables.{entry}
 use Rattle.request_laws.proofs.CountLemmas.{never}
 
@@ -139,7 +139,7 @@ sweeps c H k m =
 
 are_by : (c : HubConfig) (H : List Entry) (k : ℕ) (call : Call) (m : ℕ) → AreBy m (answer c H k call m).changes
 are_by c H k (Call.register r) m = registers c H r m (find (is_named H r.name) (nodes H))
-are_by c H k (Call.beat n) m = either m (is_registered H n) _ _ (once m) refl
+are_by c H k (Call.beat n name) m = either m (is_beat_of H n name) _ _ (once m) refl
 are_by c H k (Call.drain n) m = either m (is_base_up H n) _ _ (once m) (either m (is_draining H n) _ _ refl refl)
 are_by c H k (Call.remove n) m = either m (is_registered H n) _ _ (once m) refl
 are_by c H k (Call.enqueue choices) m =

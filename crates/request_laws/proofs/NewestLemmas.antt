@@ -24,7 +24,7 @@ use Rattle.grid_types.specs.Permitted.{is_named, is_supported, most_bytes}
 use Rattle.grid_types.specs.Capabilities.{request_bytes}
 use Rattle.grid_types.specs.Tokens.{Closing, Ticket}
 use Rattle.grid_types.specs.Calls.{Call, Reply}
-use Rattle.grid_types.specs.HubAnswers.{Answer, after_call, answer, bound, bound_by, refusal_of, closes, dispatched, drain_after_bind, drained_nodes, enqueued, expired_by, hub, idle_bindings, is_binding, lapsed_nodes, lapses, moment, overdue_requests, polled, polled_open, register_by, removals, silent_nodes, suspicions, time_outs}
+use Rattle.grid_types.specs.HubAnswers.{Answer, after_call, answer, is_beat_of, bound, bound_by, refusal_of, closes, dispatched, drain_after_bind, drained_nodes, enqueued, expired_by, hub, idle_bindings, is_binding, lapsed_nodes, lapses, moment, overdue_requests, polled, polled_open, register_by, removals, silent_nodes, suspicions, time_outs}
 use Rattle.grid_types.specs.Tables.{entry}
 use Rattle.request_laws.specs.Starts.{newest_request}
 use Rattle.request_laws.specs.Laws.{is_enqueue}
@@ -120,7 +120,7 @@ sweeps c H k m =
 
 are_others : (c : HubConfig) (H : List Entry) (k : ℕ) (call : Call) (m : ℕ) → is_enqueue call ≡ false → AreOthers (answer c H k call m).changes
 are_others c H k (Call.register r) m e = registers c H r m (find (is_named H r.name) (nodes H))
-are_others c H k (Call.beat n) m e = either (is_registered H n) _ _ refl refl
+are_others c H k (Call.beat n name) m e = either (is_beat_of H n name) _ _ refl refl
 are_others c H k (Call.drain n) m e = either (is_base_up H n) _ _ refl (either (is_draining H n) _ _ refl refl)
 are_others c H k (Call.remove n) m e = either (is_registered H n) _ _ refl refl
 are_others c H k (Call.enqueue choices) m e = absurd (never (sym e))

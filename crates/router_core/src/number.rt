@@ -8,7 +8,8 @@ use std::str::from_utf8;
 /// The number that a node's id in a path is: decimal digits without sign or leading zero, at most
 /// 4,294,967,295. Any other text names no node.
 pub fn node_number(id: &[u8]) -> Option<NodeNo>
-    ensures { MatchOption result ((n : ℕ) → n < 2 ^ 32 → id.now ≢ decimal n) (λ n. id.now ≡ decimal n) }
+    ensures { MatchOption result ((n : ℕ) → n < 2 ^ 32 → id.now ≢ decimal n)
+        (λ n. id.now ≡ decimal n) }
 {
     match from_utf8(id) {
         Ok(text) => number_of(text),
@@ -18,7 +19,8 @@ pub fn node_number(id: &[u8]) -> Option<NodeNo>
 
 /// What is parsed may have a sign and zeros before its digits, so it is written again.
 fn number_of(text: &str) -> Option<NodeNo>
-    ensures { MatchOption result ((n : ℕ) → n < 2 ^ 32 → text.now ≢ decimal n) (λ n. text.now ≡ decimal n) }
+    ensures { MatchOption result ((n : ℕ) → n < 2 ^ 32 → text.now ≢ decimal n)
+        (λ n. text.now ≡ decimal n) }
 {
     match text.parse::<u32>() {
         Ok(number) => {

@@ -58,7 +58,8 @@ impl Router {
 /// What [`Router::route`] gives, by a table that is made for this one request.
 pub fn route<'a>(alloc: Global, method: &[u8], target: &'a [u8]) -> Result<Routed<'a>, RouteFault>
     ensures ok { IfOk result (λ r. route_of method.now target.now ≡ Ok (route_told r)) }
-    ensures fault { IfErr result (λ e. e ≢ RouteFault.Memory → route_of method.now target.now ≡ Err e) }
+    ensures fault { IfErr result (λ e. e ≢ RouteFault.Memory →
+        route_of method.now target.now ≡ Err e) }
 {
     match Router::new(alloc) {
         Ok(router) => router.route(method, target),

@@ -28,12 +28,15 @@ pub trait Keeper {
         ensures went { KeepsTold row.now (disk self.old) (disk self.new) }
         ensures kept { OnOk result (HasKept row.now (disk self.old) (disk self.new)) }
         ensures later { faults self.old ≤ faults self.new }
-        ensures cause { IsErrOf result KeepFault.Failed → Rose (faults self.old) (faults self.new) };
+        ensures cause { IsErrOf result KeepFault.Failed →
+            Rose (faults self.old) (faults self.new) };
 
     /// The row with this number, from 0; None exactly past the last one. It changes no row.
     fn row(&mut self, alloc: Global, index: u64) -> Result<Option<Bytes>, KeepFault>
-        ensures row { IfSome (disk self.old) (λ d. IfOk result (λ found. found ≡ row_at d.rows index)) }
+        ensures row { IfSome (disk self.old)
+            (λ d. IfOk result (λ found. found ≡ row_at d.rows index)) }
         ensures same { disk self.new ≡ disk self.old }
         ensures later { faults self.old ≤ faults self.new }
-        ensures cause { IsErrOf result KeepFault.Failed → Rose (faults self.old) (faults self.new) };
+        ensures cause { IsErrOf result KeepFault.Failed →
+            Rose (faults self.old) (faults self.new) };
 }

@@ -37,7 +37,8 @@ pub struct Place {
 
 /// The least binding that has been idle for so many milliseconds.
 fn least_idle_of(sessions: &IndexMap<ReqNo, LiveSession>, at: Moment, idle_ms: u64) -> Option<ReqNo>
-    ensures { result ≡ reduce min (map (λ e. e.0) (filter (λ e. nat_le idle_ms (at.0 - e.1.active.0)) sessions.now.entries)) }
+    ensures { result ≡ reduce min (map (λ e. e.0)
+        (filter (λ e. nat_le idle_ms (at.0 - e.1.active.0)) sessions.now.entries)) }
 {
     sessions
         .iter()
@@ -104,7 +105,9 @@ impl LiveMap {
         at: Moment,
         address: NodeAddress,
     ) -> Result<(), NoMemory>
-        ensures stands { OnOk result ((caller : ℕ) → FollowsGiven Stands (λ H. address ≡ address_of H slot.node) self.old self.new caller (change.Bound request slot session _caps.now at)) }
+        ensures stands { OnOk result ((caller : ℕ) →
+            FollowsGiven Stands (λ H. address ≡ address_of H slot.node) self.old self.new caller
+            (change.Bound request slot session _caps.now at)) }
         ensures refused { OnErr result (Keeps Stands self.old self.new) }
         ensures sure { HasRoomFor self.old session → IsOk result }
     {
@@ -131,7 +134,8 @@ impl LiveMap {
 
     /// A session was used. It takes no memory.
     pub fn touched(&mut self, binding: ReqNo, at: Moment)
-        ensures { (caller : ℕ) → Follows Stands self.old self.new caller (change.Touched binding at) }
+        ensures { (caller : ℕ) → Follows Stands self.old self.new caller
+            (change.Touched binding at) }
     {
         if let Some(session) = self.sessions.get_mut(&binding) {
             session.active = at;
@@ -141,7 +145,8 @@ impl LiveMap {
 
     /// A session ended. It takes no memory.
     pub fn ended(&mut self, binding: ReqNo, _cause: EndCause, _at: Moment)
-        ensures { (caller : ℕ) → Follows Stands self.old self.new caller (change.Ended binding _cause _at) }
+        ensures { (caller : ℕ) → Follows Stands self.old self.new caller
+            (change.Ended binding _cause _at) }
     {
         history_laws();
         if let Some(ended) = self.sessions.swap_remove(&binding) {
@@ -156,19 +161,22 @@ impl LiveMap {
         history_laws();
         self.sessions.retain(
             |_binding: &ReqNo, session: &mut LiveSession| -> bool
-                ensures { (result ≡ not (nat_eq session.old.slot.node node)) × (session.new ≡ session.old) }
+                ensures { (result ≡ not (nat_eq session.old.slot.node node))
+                    × (session.new ≡ session.old) }
             { session.slot.node != node },
         );
         self.places.retain(
             |_session: &SessionKey, place: &mut Place| -> bool
-                ensures { (result ≡ not (nat_eq place.old.slot.node node)) × (place.new ≡ place.old) }
+                ensures { (result ≡ not (nat_eq place.old.slot.node node))
+                    × (place.new ≡ place.old) }
             { place.slot.node != node },
         );
     }
 
     /// The session that is live under the binding. It takes no memory.
     pub fn session_of(&self, binding: ReqNo) -> Option<SessionId>
-        ensures { Tells Stands self.now (λ H. result ≡ option_map (λ x. x.session) (running H binding)) }
+        ensures { Tells Stands self.now (λ H. result
+            ≡ option_map (λ x. x.session) (running H binding)) }
     {
         Some(self.sessions.get(&binding)?.session)
     }
@@ -183,7 +191,9 @@ impl LiveMap {
     /// The slot that the binding's session runs in and the moment of its last use, while the binding is live. It takes no
     /// memory.
     pub fn run_of(&self, binding: ReqNo) -> Option<(SlotId, Moment)>
-        ensures { Tells Stands self.now (λ H. MatchOption result (is_live H binding ≡ false) (λ run. RunsSince H binding run.0 run.1)) }
+        ensures { Tells Stands self.now (λ H.
+            MatchOption result (is_live H binding ≡ false)
+            (λ run. RunsSince H binding run.0 run.1)) }
     {
         history_laws();
         match self.row(binding) {
@@ -195,7 +205,8 @@ impl LiveMap {
     /// The least binding that has been idle for so many milliseconds. It takes no memory. Where some session may be
     /// idle, it looks at all of them.
     pub fn least_idle(&self, at: Moment, idle_ms: u64) -> Option<ReqNo>
-        ensures { Tells Stands self.now (λ H. result ≡ least nat_lt (idle_bindings H idle_ms at.0)) }
+        ensures { Tells Stands self.now (λ H. result
+            ≡ least nat_lt (idle_bindings H idle_ms at.0)) }
     {
         history_laws();
         if self.is_quiet(at, idle_ms) {

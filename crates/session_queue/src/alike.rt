@@ -60,7 +60,8 @@ fn same_bytes(a: &Request, b: &Request) -> bool
 
 /// The two ask for the same, and were tried on the same nodes.
 fn same_ask(a: &Request, b: &Request) -> bool
-    ensures { result ≡ (choices_eq a.now.choices b.now.choices && same_tried a.now.tried b.now.tried) }
+    ensures { result ≡ (choices_eq a.now.choices b.now.choices && same_tried a.now.tried
+        b.now.tried) }
 {
     are_same_choices(a.choices.items(), b.choices.items()) && a.tried.same_nodes(&b.tried)
 }
@@ -74,7 +75,8 @@ pub(crate) fn is_like(a: &Request, b: &Request) -> bool
 
 /// Whether two waiting requests are of one kind.
 pub fn is_alike(a: &Request, b: &Request) -> bool
-    ensures { (H : List Entry) (q r : ℕ) → RowTells a.now H q → RowTells b.now H r → is_waiting (place H q) ≡ true → is_waiting (place H r) ≡ true → result ≡ is_alike H q r }
+    ensures { (H : List Entry) (q r : ℕ) → RowTells a.now H q → RowTells b.now H r →
+        is_waiting (place H q) ≡ true → is_waiting (place H r) ≡ true → result ≡ is_alike H q r }
 {
     queue_laws();
     is_like(a, b)

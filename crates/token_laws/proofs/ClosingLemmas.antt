@@ -206,7 +206,7 @@ freed-comes H k t z false other good = inl (older H k (change.Freed t.slot ∷ [
 
 answer-comes : (c : HubConfig) (H : List Entry) (k : ℕ) (call : Call) (m : ℕ) (z : SlotId) → LiveIsRunning → legal c H ≡ true → Comes H k call (answer c H k call m) z
 answer-comes c H k (Call.register n) m z law l = by_quiet H k (Call.register n) (register_by c H n m (find (is_named H n.name) (nodes H))) z (register-quiet c H n m (find (is_named H n.name) (nodes H))) refl
-answer-comes c H k (Call.beat n) m z law l = by_quiet H k (Call.beat n) (answer c H k (Call.beat n) m) z (grind arith) refl
+answer-comes c H k (Call.beat n name) m z law l = by_quiet H k (Call.beat n name) (answer c H k (Call.beat n name) m) z (grind arith) refl
 answer-comes c H k (Call.drain n) m z law l = by_quiet H k (Call.drain n) (drained H n m) z (drain-quiet H n m) refl
 answer-comes c H k (Call.remove n) m z law l = by_quiet H k (Call.remove n) (answer c H k (Call.remove n) m) z (grind arith) refl
 answer-comes c H k (Call.enqueue choices) m z law l = by_quiet H k (Call.enqueue choices) (enqueued c H choices m) z (enqueue-quiet c H choices m) refl

@@ -176,7 +176,7 @@ bind-comes H k call q s x caps m None r z false mine spent good = inl (older H k
 
 answer-comes : (c : HubConfig) (H : List Entry) (k : ℕ) (call : Call) (m r : ℕ) (z : SlotId) → Comes H k call (answer c H k call m) r z
 answer-comes c H k (Call.register n) m r z good = by_quiet H k (Call.register n) (register_by c H n m (find (is_named H n.name) (nodes H))) r z (register-quiet c H n m (find (is_named H n.name) (nodes H)) r z) refl good
-answer-comes c H k (Call.beat n) m r z good = by_quiet H k (Call.beat n) (answer c H k (Call.beat n) m) r z (grind arith) refl good
+answer-comes c H k (Call.beat n name) m r z good = by_quiet H k (Call.beat n name) (answer c H k (Call.beat n name) m) r z (grind arith) refl good
 answer-comes c H k (Call.drain n) m r z good = by_quiet H k (Call.drain n) (drained H n m) r z (drain-quiet H n m r z) refl good
 answer-comes c H k (Call.remove n) m r z good = by_quiet H k (Call.remove n) (answer c H k (Call.remove n) m) r z (grind arith) refl good
 answer-comes c H k (Call.enqueue choices) m r z good = by_quiet H k (Call.enqueue choices) (enqueued c H choices m) r z (enqueue-quiet c H choices m r z) refl good

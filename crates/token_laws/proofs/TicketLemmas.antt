@@ -128,7 +128,7 @@ poll-comes H k call q m r None mine same handed good = poll_late-comes H k call 
 
 answer-comes : (c : HubConfig) (H : List Entry) (k : ℕ) (call : Call) (m r : ℕ) → Comes H k call (answer c H k call m) r
 answer-comes c H k (Call.register n) m r good = by_quiet H k (Call.register n) (register_by c H n m (find (is_named H n.name) (nodes H))) r (register-quiet c H n m (find (is_named H n.name) (nodes H)) r) refl good
-answer-comes c H k (Call.beat n) m r good = by_quiet H k (Call.beat n) (answer c H k (Call.beat n) m) r (grind arith) refl good
+answer-comes c H k (Call.beat n name) m r good = by_quiet H k (Call.beat n name) (answer c H k (Call.beat n name) m) r (grind arith) refl good
 answer-comes c H k (Call.drain n) m r good = by_quiet H k (Call.drain n) (drained H n m) r (drain-quiet H n m r) refl good
 answer-comes c H k (Call.remove n) m r good = by_quiet H k (Call.remove n) (answer c H k (Call.remove n) m) r (grind arith) refl good
 answer-comes c H k (Call.enqueue choices) m r good = enqueue-comes c H k choices m r good

@@ -78,7 +78,8 @@ fn push_after(
 }
 
 fn push_member(alloc: Global, text: &mut String, member: &Cap) -> Result<(), NoMemory>
-    ensures { OnOk result (string_bytes text.new ≡ string_bytes text.old ++ written_member member.now) }
+    ensures { OnOk result (string_bytes text.new
+        ≡ string_bytes text.old ++ written_member member.now) }
 {
     text.push_str(json_text(alloc, member.name.as_str())?.as_str())?;
     text.push_str(":")?;
@@ -86,7 +87,8 @@ fn push_member(alloc: Global, text: &mut String, member: &Cap) -> Result<(), NoM
 }
 
 fn push_value(alloc: Global, text: &mut String, value: &CapValue) -> Result<(), NoMemory>
-    ensures { OnOk result (string_bytes text.new ≡ string_bytes text.old ++ written_value value.now) }
+    ensures { OnOk result (string_bytes text.new
+        ≡ string_bytes text.old ++ written_value value.now) }
 {
     match value {
         CapValue::Text(content) => text.push_str(json_text(alloc, content.as_str())?.as_str())?,

@@ -23,7 +23,8 @@ impl GridLedger {
         at: Moment,
     ) -> Result<(), NoMemory>
         requires { length (stereotypes registration.now.groups) ≤ MOST_SLOTS }
-        ensures { OnOk result ((caller : ℕ) → Notes self.old self.new caller (change.Registered node registration.now at)) }
+        ensures { OnOk result ((caller : ℕ) →
+            Notes self.old self.new caller (change.Registered node registration.now at)) }
     {
         // For the proof alone: what takes no change of this kind stays as it is.
         others_keep();
@@ -92,7 +93,8 @@ impl GridLedger {
         deadline: Moment,
         at: Moment,
     ) -> Result<(), NoMemory>
-        ensures { OnOk result (Notes self.old self.new caller (change.Queued request choices deadline at)) }
+        ensures { OnOk result (Notes self.old self.new caller
+            (change.Queued request choices deadline at)) }
     {
         others_keep();
         let bytes = request_bytes(choices.items());
@@ -112,7 +114,8 @@ impl GridLedger {
         choice: u16,
         at: Moment,
     ) -> Result<(), NoMemory>
-        ensures { OnOk result (Notes self.old self.new caller (change.Reserved request slot choice at)) }
+        ensures { OnOk result (Notes self.old self.new caller
+            (change.Reserved request slot choice at)) }
     {
         others_keep();
         self.nodes.reserved(request, slot, choice, at)?;
@@ -124,7 +127,8 @@ impl GridLedger {
 
     /// The address of a registered node.
     fn address_of(&self, node: NodeNo) -> Result<NodeAddress, NoMemory>
-        ensures { IfOk result (λ a. LedgerTells self.now (λ H. is_registered H node ≡ true → a ≡ address_of H node)) }
+        ensures { IfOk result (λ a. LedgerTells self.now
+            (λ H. is_registered H node ≡ true → a ≡ address_of H node)) }
     {
         match self.nodes.registration(node) {
             Some(registration) => Ok(registration.address),
@@ -143,7 +147,8 @@ impl GridLedger {
         caps: Caps,
         at: Moment,
     ) -> Result<(), NoMemory>
-        ensures { OnOk result (Notes self.old self.new caller (change.Bound request slot session caps at)) }
+        ensures { OnOk result (Notes self.old self.new caller
+            (change.Bound request slot session caps at)) }
     {
         others_keep();
         let address = self.address_of(slot.node)?;
@@ -168,7 +173,8 @@ impl GridLedger {
         last: bool,
         at: Moment,
     )
-        ensures { Notes self.old self.new caller (change.Failed request slot why.now (option_copied orphan.entry) last at) }
+        ensures { Notes self.old self.new caller
+            (change.Failed request slot why.now (option_copied orphan.entry) last at) }
     {
         others_keep();
         self.requests
@@ -217,7 +223,8 @@ impl GridLedger {
 
     /// The slot that the session of a live binding runs in.
     fn slot_of(&self, binding: ReqNo) -> Result<SlotId, NoMemory>
-        ensures { IfOk result (λ s. LedgerTells self.now (λ H. is_live H binding ≡ true → bound_slot H binding ≡ Some s)) }
+        ensures { IfOk result (λ s. LedgerTells self.now
+            (λ H. is_live H binding ≡ true → bound_slot H binding ≡ Some s)) }
     {
         match self.sessions.run_of(binding) {
             Some((slot, _)) => Ok(slot),

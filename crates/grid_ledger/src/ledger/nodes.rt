@@ -72,7 +72,8 @@ impl GridLedger {
 
     /// Whether the registered node has given no sign for as long as one that is down.
     fn has_lapsed(&self, node: NodeNo, at: Moment) -> bool
-        ensures { LedgerTells self.now (λ H. is_registered H node ≡ true → result ≡ nat_le self.now.config.down_ms (at.0 - beat_of H node)) }
+        ensures { LedgerTells self.now (λ H. is_registered H node ≡ true →
+            result ≡ nat_le self.now.config.down_ms (at.0 - beat_of H node)) }
     {
         match self.nodes.beat(node) {
             Some(beat) => lapsed(beat, at, &self.config),
@@ -82,7 +83,8 @@ impl GridLedger {
 
     /// Whether the registered node has given no sign for as long as one that is suspect.
     fn is_silent(&self, node: NodeNo, at: Moment) -> bool
-        ensures { LedgerTells self.now (λ H. is_registered H node ≡ true → result ≡ nat_le self.now.config.lapse_ms (at.0 - beat_of H node)) }
+        ensures { LedgerTells self.now (λ H. is_registered H node ≡ true →
+            result ≡ nat_le self.now.config.lapse_ms (at.0 - beat_of H node)) }
     {
         match self.nodes.beat(node) {
             Some(beat) => silent(beat, at, &self.config),
@@ -98,7 +100,9 @@ impl GridLedger {
         registration: &Registration,
         at: Moment,
     ) -> bool
-        ensures exact { (caller : ℕ) → LedgerTells self.now (λ H. result ≡ permitted self.now.config H caller (change.Registered node registration.now at)) }
+        ensures exact { (caller : ℕ) → LedgerTells self.now
+            (λ H. result ≡ permitted self.now.config H caller
+            (change.Registered node registration.now at)) }
         ensures few { result ≡ true → length (stereotypes registration.now.groups) ≤ MOST_SLOTS }
     {
         self.is_current(at)
@@ -112,7 +116,8 @@ impl GridLedger {
     /// A registered node gives a sign.
     #[tactic(auto, unfolding(grid_types::specs::Permitted::permitted))]
     pub(super) fn permits_beaten(&self, node: NodeNo, at: Moment) -> bool
-        ensures { (caller : ℕ) → LedgerTells self.now (λ H. result ≡ permitted self.now.config H caller (change.Beaten node at)) }
+        ensures { (caller : ℕ) → LedgerTells self.now
+            (λ H. result ≡ permitted self.now.config H caller (change.Beaten node at)) }
     {
         self.is_current(at) && self.nodes.is_registered(node)
     }
@@ -120,7 +125,8 @@ impl GridLedger {
     /// A registered node that was not drained is drained.
     #[tactic(auto, unfolding(grid_types::specs::Permitted::permitted))]
     pub(super) fn permits_draining(&self, node: NodeNo, at: Moment) -> bool
-        ensures { (caller : ℕ) → LedgerTells self.now (λ H. result ≡ permitted self.now.config H caller (change.Draining node at)) }
+        ensures { (caller : ℕ) → LedgerTells self.now
+            (λ H. result ≡ permitted self.now.config H caller (change.Draining node at)) }
     {
         self.is_current(at) && self.nodes.is_base_up(node)
     }
@@ -128,7 +134,8 @@ impl GridLedger {
     /// A registered node is removed.
     #[tactic(auto, unfolding(grid_types::specs::Permitted::permitted))]
     pub(super) fn permits_removed(&self, node: NodeNo, at: Moment) -> bool
-        ensures { (caller : ℕ) → LedgerTells self.now (λ H. result ≡ permitted self.now.config H caller (change.Removed node at)) }
+        ensures { (caller : ℕ) → LedgerTells self.now
+            (λ H. result ≡ permitted self.now.config H caller (change.Removed node at)) }
     {
         self.is_current(at) && self.nodes.is_registered(node)
     }
@@ -136,7 +143,8 @@ impl GridLedger {
     /// A registered node is down.
     #[tactic(auto, unfolding(grid_types::specs::Permitted::permitted))]
     pub(super) fn permits_lapsed(&self, node: NodeNo, at: Moment) -> bool
-        ensures { (caller : ℕ) → LedgerTells self.now (λ H. result ≡ permitted self.now.config H caller (change.Lapsed node at)) }
+        ensures { (caller : ℕ) → LedgerTells self.now
+            (λ H. result ≡ permitted self.now.config H caller (change.Lapsed node at)) }
     {
         self.is_current(at) && self.nodes.is_registered(node) && self.has_lapsed(node, at)
     }
@@ -144,7 +152,8 @@ impl GridLedger {
     /// A registered node that is not suspect is suspected.
     #[tactic(auto, unfolding(grid_types::specs::Permitted::permitted))]
     pub(super) fn permits_suspected(&self, node: NodeNo, at: Moment) -> bool
-        ensures { (caller : ℕ) → LedgerTells self.now (λ H. result ≡ permitted self.now.config H caller (change.Suspected node at)) }
+        ensures { (caller : ℕ) → LedgerTells self.now
+            (λ H. result ≡ permitted self.now.config H caller (change.Suspected node at)) }
     {
         self.is_current(at)
             && self.nodes.is_registered(node)

@@ -9,7 +9,8 @@ use grid_types::Change;
 impl GridLedger {
     /// Whether the caller may make the change after the history that the tables stand for.
     pub fn permits(&self, caller: u64, change: &Change) -> bool
-        ensures exact { LedgerTells self.now (λ H. result ≡ permitted self.now.config H caller change.now) }
+        ensures exact { LedgerTells self.now
+            (λ H. result ≡ permitted self.now.config H caller change.now) }
         ensures may { result ≡ true → MayNote change.now }
     {
         match change {

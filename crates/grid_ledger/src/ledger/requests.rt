@@ -45,7 +45,8 @@ fn counted_choice<L: Ledger>(
     requires name { blank.name ≡ L.name }
     requires parts { blank.parts ≡ L.parts }
     requires some { 0 < L.parts }
-    ensures { AllTell nodes.now slots.now requests.now (λ H. option_map as_chosen result ≡ chosen H at.0) }
+    ensures { AllTell nodes.now slots.now requests.now
+        (λ H. option_map as_chosen result ≡ chosen H at.0) }
 {
     hub_walks::chosen(nodes, slots, requests, 0, at, &mut Steps::<L>::new(blank))
 }
@@ -59,14 +60,16 @@ pub(super) fn is_same_slot(one: SlotId, other: SlotId) -> bool
 
 /// Whether the assignment is this one.
 fn is_assignment(found: &Assignment, request: ReqNo, choice: u16, slot: SlotId) -> bool
-    ensures { result ≡ (nat_eq found.now.request request && nat_eq found.now.choice choice && slot_eq found.now.slot slot) }
+    ensures { result ≡ (nat_eq found.now.request request && nat_eq found.now.choice choice &&
+        slot_eq found.now.slot slot) }
 {
     found.request == request && found.choice == choice && is_same_slot(found.slot, slot)
 }
 
 impl GridLedger {
     fn is_next_request(&self, request: ReqNo) -> bool
-        ensures { LedgerTells self.now (λ H. result ≡ nat_eq request (next_request self.now.config H)) }
+        ensures { LedgerTells self.now (λ H. result
+            ≡ nat_eq request (next_request self.now.config H)) }
     {
         request == self.next_request
     }
@@ -89,7 +92,8 @@ impl GridLedger {
 
     /// Whether the choices may be queued: each may, or a slot of a registered node matches one.
     fn is_accepted(&self, choices: &[Caps]) -> bool
-        ensures { LedgerTells self.now (λ H. result ≡ (not self.now.config.reject_unsupported || is_supported H choices.now)) }
+        ensures { LedgerTells self.now (λ H. result
+            ≡ (not self.now.config.reject_unsupported || is_supported H choices.now)) }
     {
         !self.config.reject_unsupported
             || counted_support::<Brand>(&self.nodes, choices, Blank::new(1))
@@ -104,7 +108,9 @@ impl GridLedger {
         deadline: Moment,
         at: Moment,
     ) -> bool
-        ensures { (caller : ℕ) → LedgerTells self.now (λ H. result ≡ permitted self.now.config H caller (change.Queued request choices.now deadline at)) }
+        ensures { (caller : ℕ) → LedgerTells self.now
+            (λ H. result ≡ permitted self.now.config H caller
+            (change.Queued request choices.now deadline at)) }
     {
         let lists = choices.items();
         self.is_current(at)
@@ -126,7 +132,8 @@ impl GridLedger {
 
     /// Whether this is the assignment that is made next.
     fn is_chosen(&self, request: ReqNo, choice: u16, slot: SlotId, at: Moment) -> bool
-        ensures { LedgerTells self.now (λ H. result ≡ is_assignment request choice slot (chosen H at.0)) }
+        ensures { LedgerTells self.now (λ H. result
+            ≡ is_assignment request choice slot (chosen H at.0)) }
     {
         match self.next_assignment(at) {
             Some(found) => is_assignment(&found, request, choice, slot),
@@ -143,7 +150,9 @@ impl GridLedger {
         choice: u16,
         at: Moment,
     ) -> bool
-        ensures { (caller : ℕ) → LedgerTells self.now (λ H. result ≡ permitted self.now.config H caller (change.Reserved request slot choice at)) }
+        ensures { (caller : ℕ) → LedgerTells self.now
+            (λ H. result ≡ permitted self.now.config H caller
+            (change.Reserved request slot choice at)) }
     {
         self.is_current(at) && self.is_chosen(request, choice, slot, at)
     }
@@ -170,7 +179,8 @@ impl GridLedger {
 
     /// Whether the deadline of a request that is not settled is reached.
     fn is_due(&self, request: ReqNo, at: Moment) -> bool
-        ensures { LedgerTells self.now (λ H. is_unsettled (place H request) ≡ true → result ≡ nat_le (deadline_of H request) at.0) }
+        ensures { LedgerTells self.now (λ H. is_unsettled (place H request) ≡ true →
+            result ≡ nat_le (deadline_of H request) at.0) }
     {
         match self.requests.get(request) {
             Some(asked) => overdue(asked.deadline, at),
@@ -181,7 +191,8 @@ impl GridLedger {
     /// A request that is not settled reaches its deadline.
     #[tactic(auto, unfolding(grid_types::specs::Permitted::permitted))]
     pub(super) fn permits_timed_out(&self, request: ReqNo, at: Moment) -> bool
-        ensures { (caller : ℕ) → LedgerTells self.now (λ H. result ≡ permitted self.now.config H caller (change.TimedOut request at)) }
+        ensures { (caller : ℕ) → LedgerTells self.now
+            (λ H. result ≡ permitted self.now.config H caller (change.TimedOut request at)) }
     {
         self.is_current(at) && self.is_unsettled(request) && self.is_due(request, at)
     }
@@ -189,14 +200,16 @@ impl GridLedger {
     /// A waiting request is cleared.
     #[tactic(auto, unfolding(grid_types::specs::Permitted::permitted))]
     pub(super) fn permits_cleared(&self, request: ReqNo, at: Moment) -> bool
-        ensures { (caller : ℕ) → LedgerTells self.now (λ H. result ≡ permitted self.now.config H caller (change.Cleared request at)) }
+        ensures { (caller : ℕ) → LedgerTells self.now
+            (λ H. result ≡ permitted self.now.config H caller (change.Cleared request at)) }
     {
         self.is_current(at) && self.is_waiting(request)
     }
 
     /// Whether the outcome of the request is there, was not handed out, and is asked for by the caller that queued it.
     fn is_ready(&self, caller: u64, request: ReqNo) -> bool
-        ensures { LedgerTells self.now (λ H. result ≡ (is_settled H request && not (is_taken H request) && is_asker H caller request)) }
+        ensures { LedgerTells self.now (λ H. result
+            ≡ (is_settled H request && not (is_taken H request) && is_asker H caller request)) }
     {
         match self.requests.get(request) {
             Some(asked) => !asked.stage.is_unsettled() && asked.caller == caller,
@@ -207,7 +220,8 @@ impl GridLedger {
     /// The outcome of a settled request is handed out once, to the caller that queued it.
     #[tactic(auto, unfolding(grid_types::specs::Permitted::permitted))]
     pub(super) fn permits_taken(&self, caller: u64, request: ReqNo, at: Moment) -> bool
-        ensures { LedgerTells self.now (λ H. result ≡ permitted self.now.config H caller (change.Taken request at)) }
+        ensures { LedgerTells self.now (λ H. result
+            ≡ permitted self.now.config H caller (change.Taken request at)) }
     {
         self.is_current(at) && self.is_ready(caller, request)
     }

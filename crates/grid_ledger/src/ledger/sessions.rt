@@ -23,7 +23,8 @@ impl GridLedger {
 
     /// Whether the live session may end for this cause: if it is idleness, it has been idle for long enough.
     fn may_end(&self, binding: ReqNo, cause: EndCause, at: Moment) -> bool
-        ensures { LedgerTells self.now (λ H. is_live H binding ≡ true → result ≡ may_end self.now.config H binding cause at.0) }
+        ensures { LedgerTells self.now (λ H. is_live H binding ≡ true →
+            result ≡ may_end self.now.config H binding cause at.0) }
     {
         match cause {
             EndCause::Quit => true,
@@ -36,7 +37,8 @@ impl GridLedger {
 
     /// Whether the slot is closing since an entry of the caller.
     fn is_closing_of(&self, caller: u64, slot: SlotId) -> bool
-        ensures { LedgerTells self.now (λ H. result ≡ (is_closing (holder H slot) && is_caller caller (owner H slot))) }
+        ensures { LedgerTells self.now (λ H. result
+            ≡ (is_closing (holder H slot) && is_caller caller (owner H slot))) }
     {
         match self.slots.slot_use(slot) {
             SlotUse::Closing { owner } => owner == caller,
@@ -49,7 +51,8 @@ impl GridLedger {
     /// A live session is used.
     #[tactic(auto, unfolding(grid_types::specs::Permitted::permitted))]
     pub(super) fn permits_touched(&self, binding: ReqNo, at: Moment) -> bool
-        ensures { (caller : ℕ) → LedgerTells self.now (λ H. result ≡ permitted self.now.config H caller (change.Touched binding at)) }
+        ensures { (caller : ℕ) → LedgerTells self.now
+            (λ H. result ≡ permitted self.now.config H caller (change.Touched binding at)) }
     {
         self.is_current(at) && self.is_live(binding)
     }
@@ -57,7 +60,8 @@ impl GridLedger {
     /// A live session ends, if it is for idleness after it was idle for long enough.
     #[tactic(auto, unfolding(grid_types::specs::Permitted::permitted))]
     pub(super) fn permits_ended(&self, binding: ReqNo, cause: EndCause, at: Moment) -> bool
-        ensures { (caller : ℕ) → LedgerTells self.now (λ H. result ≡ permitted self.now.config H caller (change.Ended binding cause at)) }
+        ensures { (caller : ℕ) → LedgerTells self.now
+            (λ H. result ≡ permitted self.now.config H caller (change.Ended binding cause at)) }
     {
         self.is_current(at) && self.is_live(binding) && self.may_end(binding, cause, at)
     }
@@ -65,7 +69,8 @@ impl GridLedger {
     /// A closing slot is freed by the caller of the entry since which it is closing.
     #[tactic(auto, unfolding(grid_types::specs::Permitted::permitted))]
     pub(super) fn permits_freed(&self, caller: u64, slot: SlotId) -> bool
-        ensures { LedgerTells self.now (λ H. result ≡ permitted self.now.config H caller (change.Freed slot)) }
+        ensures { LedgerTells self.now (λ H. result
+            ≡ permitted self.now.config H caller (change.Freed slot)) }
     {
         self.is_closing_of(caller, slot)
     }

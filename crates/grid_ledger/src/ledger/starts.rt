@@ -29,7 +29,8 @@ fn counted_last<L: Ledger>(
     requires name { blank.name ≡ L.name }
     requires parts { blank.parts ≡ L.parts }
     requires some { 0 < L.parts }
-    ensures { AskedTell nodes.now requests.now (λ H. (slot : SlotId) → holder H slot ≡ held request → result ≡ is_last H request slot) }
+    ensures { AskedTell nodes.now requests.now
+        (λ H. (slot : SlotId) → holder H slot ≡ held request → result ≡ is_last H request slot) }
 {
     hub_walks::is_last(nodes, requests, request, &mut Steps::<L>::new(blank))
 }
@@ -74,7 +75,8 @@ impl GridLedger {
 
     /// The choice that the held slot was reserved with.
     fn reserved_choice(&self, slot: SlotId) -> u16
-        ensures { LedgerTells self.now (λ H. (request : ℕ) → holder H slot ≡ held request → result ≡ reserved_choice H slot) }
+        ensures { LedgerTells self.now (λ H. (request : ℕ) → holder H slot ≡ held request →
+            result ≡ reserved_choice H slot) }
     {
         match self.slots.slot_use(slot) {
             SlotUse::Held { choice, .. } => choice,
@@ -86,7 +88,8 @@ impl GridLedger {
 
     /// Whether the session's capabilities meet this choice of a held request. A choice that isn't there wants nothing.
     fn meets_choice(&self, request: ReqNo, choice: u16, caps: &Caps) -> bool
-        ensures { LedgerTells self.now (λ H. is_held (place H request) ≡ true → result ≡ meets (choice_of H request choice) caps.now) }
+        ensures { LedgerTells self.now (λ H. is_held (place H request) ≡ true →
+            result ≡ meets (choice_of H request choice) caps.now) }
     {
         match self.requests.get(request) {
             Some(asked) => match asked.choices.items().get(choice as usize) {
@@ -99,7 +102,8 @@ impl GridLedger {
 
     /// Whether the session's capabilities meet the choice of the held request that the slot was reserved with.
     fn meets_wanted(&self, request: ReqNo, slot: SlotId, caps: &Caps) -> bool
-        ensures { LedgerTells self.now (λ H. is_held (place H request) ≡ true → holder H slot ≡ held request → result ≡ meets (wanted_of H request slot) caps.now) }
+        ensures { LedgerTells self.now (λ H. is_held (place H request) ≡ true →
+            holder H slot ≡ held request → result ≡ meets (wanted_of H request slot) caps.now) }
     {
         let choice = self.reserved_choice(slot);
         self.meets_choice(request, choice, caps)
@@ -126,7 +130,9 @@ impl GridLedger {
         caps: &Caps,
         at: Moment,
     ) -> bool
-        ensures { LedgerTells self.now (λ H. result ≡ permitted self.now.config H caller (change.Bound request slot session.now caps.now at)) }
+        ensures { LedgerTells self.now (λ H. result
+            ≡ permitted self.now.config H caller
+            (change.Bound request slot session.now caps.now at)) }
     {
         self.is_current(at)
             && self.is_held(request)
@@ -138,7 +144,8 @@ impl GridLedger {
 
     /// Whether the hub would not keep the session for this cause, the first of four.
     fn is_refusal(&self, request: ReqNo, slot: SlotId, session: &SessionId, why: &FailWhy) -> bool
-        ensures { LedgerTells self.now (λ H. holder H slot ≡ held request → result ≡ is_refusal H request slot session.now why.now) }
+        ensures { LedgerTells self.now (λ H. holder H slot ≡ held request →
+            result ≡ is_refusal H request slot session.now why.now) }
     {
         let settled = self.requests.is_settled(request);
         let registered = self.nodes.is_registered(slot.node);
@@ -160,7 +167,8 @@ impl GridLedger {
         orphan: Option<&SessionId>,
         why: &FailWhy,
     ) -> bool
-        ensures { LedgerTells self.now (λ H. holder H slot ≡ held request → result ≡ is_failure H request slot (option_copied orphan.entry) why.now) }
+        ensures { LedgerTells self.now (λ H. holder H slot ≡ held request →
+            result ≡ is_failure H request slot (option_copied orphan.entry) why.now) }
     {
         match orphan {
             Some(session) => self.is_refusal(request, slot, session, why),
@@ -170,7 +178,8 @@ impl GridLedger {
 
     /// Whether it is told rightly that the failure settles the request.
     fn is_last_as(&self, request: ReqNo, last: bool) -> bool
-        ensures { LedgerTells self.now (λ H. (slot : SlotId) → holder H slot ≡ held request → result ≡ bool_eq last (is_last H request slot)) }
+        ensures { LedgerTells self.now (λ H. (slot : SlotId) → holder H slot ≡ held request →
+            result ≡ bool_eq last (is_last H request slot)) }
     {
         let is_last = counted_last::<Brand>(&self.nodes, &self.requests, request, Blank::new(1));
         last == is_last
@@ -189,7 +198,9 @@ impl GridLedger {
         last: bool,
         at: Moment,
     ) -> bool
-        ensures { LedgerTells self.now (λ H. result ≡ permitted self.now.config H caller (change.Failed request slot why.now (option_copied orphan.entry) last at)) }
+        ensures { LedgerTells self.now (λ H. result
+            ≡ permitted self.now.config H caller
+            (change.Failed request slot why.now (option_copied orphan.entry) last at)) }
     {
         self.is_current(at)
             && self.has_slot(caller, request, slot)

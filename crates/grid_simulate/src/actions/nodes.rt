@@ -1,5 +1,5 @@
 //! The nodes' signs of life, and the clearing of the queue.
-ghost use Rattle.std.specs.Prelude.{◌≡◌, OnOk};
+ghost use Rattle.std.specs.Prelude.{◌≡◌, None, OnOk};
 ghost use Rattle.grid_types.specs.Calls.{Call};
 ghost use Rattle.grid_types.specs.Lists.{numbers_from};
 ghost use Rattle.grid_simulate.specs.World.{world_of, called, draw, drawn};
@@ -18,7 +18,8 @@ impl Simulation {
         requires { IsSound self.old }
         ensures sound { IsSound self.new }
         ensures moment { self.new.moment ≡ self.old.moment }
-        ensures acts { OnOk result (world_of self.new ≡ called (world_of self.old) (Call.beat node)) }
+        ensures acts { OnOk result (world_of self.new
+            ≡ called (world_of self.old) (Call.beat node None)) }
     {
         self.hub.room()?;
         self.hub.beat(node, Moment(self.moment));
@@ -29,7 +30,8 @@ impl Simulation {
         requires { IsSound self.old }
         ensures sound { IsSound self.new }
         ensures moment { self.new.moment ≡ self.old.moment }
-        ensures acts { OnOk result (world_of self.new ≡ beaten (numbers_from 1 8) (world_of self.old)) }
+        ensures acts { OnOk result (world_of self.new
+            ≡ beaten (numbers_from 1 8) (world_of self.old)) }
     {
         for i in 0..NODES {
             self.beat(i + 1)?;
@@ -52,7 +54,8 @@ impl Simulation {
         requires { IsSound self.old }
         ensures sound { IsSound self.new }
         ensures moment { self.new.moment ≡ self.old.moment }
-        ensures acts { OnOk result (world_of self.new ≡ cleared_or_beaten (draw (world_of self.old) 20) (drawn (world_of self.old))) }
+        ensures acts { OnOk result (world_of self.new
+            ≡ cleared_or_beaten (draw (world_of self.old) 20) (drawn (world_of self.old))) }
     {
         let kind = draw(&mut self.number, 20);
         if kind == 0 {

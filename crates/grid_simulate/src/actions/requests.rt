@@ -54,7 +54,8 @@ impl Simulation {
         requires { IsSound self.old }
         ensures sound { IsSound self.new }
         ensures moment { self.new.moment ≡ self.old.moment }
-        ensures acts { OnOk result (world_of self.new ≡ enqueues (world_of self.old) (Call.enqueue choices)) }
+        ensures acts { OnOk result (world_of self.new
+            ≡ enqueues (world_of self.old) (Call.enqueue choices)) }
     {
         self.tickets.reserve(1)?;
         self.hub.room()?;
@@ -110,7 +111,8 @@ impl Simulation {
         requires within { place < vec_len self.old.tickets }
         ensures sound { IsSound self.new }
         ensures moment { self.new.moment ≡ self.old.moment }
-        ensures acts { OnOk result (world_of self.new ≡ polled_at (world_of self.old) place (slice_get self.old.tickets.items place)) }
+        ensures acts { OnOk result (world_of self.new
+            ≡ polled_at (world_of self.old) place (slice_get self.old.tickets.items place)) }
     {
         self.reservations.reserve(1)?;
         // A reservation has a slot that was free.

@@ -73,7 +73,8 @@ impl Simulation {
         requires good { MayCall (past self.old.hub) 0 (Call.freed closing) }
         ensures sound { IsSound self.new }
         ensures moment { self.new.moment ≡ self.old.moment }
-        ensures acts { OnOk result (QuitsIf closing.quit closing (world_of self.old) (world_of self.new)) }
+        ensures acts { OnOk result (QuitsIf closing.quit closing (world_of self.old)
+            (world_of self.new)) }
     {
         if closing.quit() {
             return self.quit(alloc, closing);
@@ -87,7 +88,8 @@ impl Simulation {
         requires { IsSound self.old }
         ensures sound { IsSound self.new }
         ensures moment { self.new.moment ≡ self.old.moment }
-        ensures acts { OnOk result (EndsCall (world_of self.old) (Call.end kept.now.session kept.now.binding) (world_of self.new)) }
+        ensures acts { OnOk result (EndsCall (world_of self.old)
+            (Call.end kept.now.session kept.now.binding) (world_of self.new)) }
     {
         self.hub.room()?;
         match self
@@ -105,7 +107,8 @@ impl Simulation {
         requires within { place < vec_len self.old.sessions }
         ensures sound { IsSound self.new }
         ensures moment { self.new.moment ≡ self.old.moment }
-        ensures acts { OnOk result (EndsAt (world_of self.old) place (slice_get self.old.sessions.items place) (world_of self.new)) }
+        ensures acts { OnOk result (EndsAt (world_of self.old) place
+            (slice_get self.old.sessions.items place) (world_of self.new)) }
     {
         let kept = take_out(&mut self.sessions, place);
         self.end_kept(alloc, &kept)
@@ -115,7 +118,8 @@ impl Simulation {
         requires { IsSound self.old }
         ensures sound { IsSound self.new }
         ensures moment { self.new.moment ≡ self.old.moment }
-        ensures acts { OnOk result (EndsOf (world_of self.old) self.old.sessions.items (world_of self.new)) }
+        ensures acts { OnOk result (EndsOf (world_of self.old) self.old.sessions.items
+            (world_of self.new)) }
     {
         let count = count_of(&self.sessions);
         if count == 0 {
@@ -163,7 +167,8 @@ impl Simulation {
         requires { IsSound self.old }
         ensures sound { IsSound self.new }
         ensures moment { self.new.moment ≡ self.old.moment }
-        ensures acts { OnOk result (Expires (called (world_of self.old) Call.sweep) (world_of self.new)) }
+        ensures acts { OnOk result (Expires (called (world_of self.old) Call.sweep)
+            (world_of self.new)) }
     {
         self.hub.room()?;
         self.hub.sweep(Moment(self.moment));

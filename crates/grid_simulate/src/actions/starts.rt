@@ -50,7 +50,8 @@ impl Simulation {
         ensures sound { IsSound self.new }
         ensures moment { self.new.moment ≡ self.old.moment }
         ensures rest { self.new.reservations.items ≡ remove self.old.reservations.items place }
-        ensures acts { OnOk result (StartsAt (world_of self.old) place (slice_get self.old.reservations.items place) (world_of self.new)) }
+        ensures acts { OnOk result (StartsAt (world_of self.old) place
+            (slice_get self.old.reservations.items place) (world_of self.new)) }
     {
         let has_room = self.sessions.reserve(1).is_ok();
         let (bound, short) = self.carry(alloc, place);
@@ -68,7 +69,8 @@ impl Simulation {
         requires { IsSound self.old }
         ensures sound { IsSound self.new }
         ensures moment { self.new.moment ≡ self.old.moment }
-        ensures acts { OnOk result (StartsOf (world_of self.old) self.old.reservations.items (world_of self.new)) }
+        ensures acts { OnOk result (StartsOf (world_of self.old) self.old.reservations.items
+            (world_of self.new)) }
     {
         let count = count_of(&self.reservations);
         if count == 0 {
@@ -84,7 +86,8 @@ impl Simulation {
         ensures sound { IsSound self.new }
         ensures moment { self.new.moment ≡ self.old.moment }
         ensures none { self.new.reservations.items ≡ [] }
-        ensures starts { OnOk result (StartsAll self.old.reservations.items (world_of self.old) (world_of self.new)) }
+        ensures starts { OnOk result (StartsAll self.old.reservations.items (world_of self.old)
+            (world_of self.new)) }
     {
         let mut full = true;
         'starts: while !self.reservations.is_empty() {

@@ -61,9 +61,15 @@ pub(crate) trait Announces: Drop {
     /// The items that the call publishes.
     fn items(&self, core: &mut HubCore, alloc: Global) -> Result<Items, NoMemory>
         ensures keeps { CoreKeeps core.old core.new }
-        ensures items { IfOk result (λ items. CoreTells core.old (λ H. (caller : ℕ) → MayCall H caller (call self.now) → Publishes core.old.config H caller (call self.now) (at self.now) (listed items))) }
-        ensures ready { OnOk result (CoreTells core.old (λ H. (caller : ℕ) → MayCall H caller (call self.now) → may_lack (call self.now) (hub core.old.config H caller (call self.now) (at self.now)).reply ≡ true → ready self.now core.new)) }
-        ensures lacks { CoreTells core.old (λ H. (caller : ℕ) → MayCall H caller (call self.now) → MayLack result → lacks self.now core.old.config H caller) };
+        ensures items { IfOk result (λ items.
+            CoreTells core.old (λ H. (caller : ℕ) → MayCall H caller (call self.now) →
+            Publishes core.old.config H caller (call self.now) (at self.now) (listed items))) }
+        ensures ready { OnOk result (CoreTells core.old
+            (λ H. (caller : ℕ) → MayCall H caller (call self.now) →
+            may_lack (call self.now) (hub core.old.config H caller (call self.now)
+            (at self.now)).reply ≡ true → ready self.now core.new)) }
+        ensures lacks { CoreTells core.old (λ H. (caller : ℕ) → MayCall H caller (call self.now) →
+            MayLack result → lacks self.now core.old.config H caller) };
 
     fn answer(self, core: &mut HubCore, caller: u64) -> Self::Answer
         ensures serves { CoreServes core.old core.new caller (call self) (at self) (reply result) }
@@ -106,10 +112,19 @@ fn prepare<Q: Announces>(grid: &mut Grid, question: &Q, alloc: Global) -> Result
     requires none { pending grid.old.map ≡ [] }
     ensures keeps { CoreKeeps grid.old.core.value grid.new.core.value }
     ensures shown { published grid.new.map ≡ published grid.old.map }
-    ensures items { OnOk result (CoreTells grid.old.core.value (λ H. (caller : ℕ) → MayCall H caller (Q.call question.now) → Publishes grid.old.core.value.config H caller (Q.call question.now) (Q.at question.now) (pending grid.new.map))) }
-    ensures ready { OnOk result (CoreTells grid.old.core.value (λ H. (caller : ℕ) → MayCall H caller (Q.call question.now) → may_lack (Q.call question.now) (hub grid.old.core.value.config H caller (Q.call question.now) (Q.at question.now)).reply ≡ true → Q.ready question.now grid.new.core.value)) }
+    ensures items { OnOk result (CoreTells grid.old.core.value
+        (λ H. (caller : ℕ) → MayCall H caller (Q.call question.now) →
+        Publishes grid.old.core.value.config H caller (Q.call question.now) (Q.at question.now)
+        (pending grid.new.map))) }
+    ensures ready { OnOk result (CoreTells grid.old.core.value
+        (λ H. (caller : ℕ) → MayCall H caller (Q.call question.now) →
+        may_lack (Q.call question.now) (hub grid.old.core.value.config H caller
+        (Q.call question.now) (Q.at question.now)).reply ≡ true →
+        Q.ready question.now grid.new.core.value)) }
     ensures none { OnErr result (pending grid.new.map ≡ []) }
-    ensures lacks { OnErr result (CoreTells grid.old.core.value (λ H. (caller : ℕ) → MayCall H caller (Q.call question.now) → Q.lacks question.now grid.old.core.value.config H caller)) }
+    ensures lacks { OnErr result (CoreTells grid.old.core.value
+        (λ H. (caller : ℕ) → MayCall H caller (Q.call question.now) →
+        Q.lacks question.now grid.old.core.value.config H caller)) }
 {
     let items = question.items(&mut *grid.core, alloc)?;
     if items.items().is_empty() {
@@ -132,13 +147,18 @@ fn announce_there<Q: Announces, E: Made, R: Wait>(
     question: Q,
 ) -> Result<Q::Answer, Q>
     requires own { cells.IsOf cell.now pass.old × HasTurn pass.old turn }
-    requires stands { GridStands turn.value.core.value turn.value.map (past (view_of pass.old)) × (turn.value.core.value.config ≡ (origin_of cell.now).core.value.config) }
+    requires stands { GridStands turn.value.core.value turn.value.map (past (view_of pass.old))
+        × (turn.value.core.value.config ≡ (origin_of cell.now).core.value.config) }
     requires may { PassMay (view_of pass.old) (Q.call question) }
-    requires made { E.entries ≡ made_by (origin_of cell.now).core.value.config (past (view_of pass.old)) (view_of pass.old).number (Q.call question) (Q.at question) }
+    requires made { E.entries ≡ made_by (origin_of cell.now).core.value.config
+        (past (view_of pass.old)) (view_of pass.old).number (Q.call question) (Q.at question) }
     ensures own { cells.IsOf cell.now pass.new × IsFree pass.new }
-    ensures serves { IfOk result (λ a. ServesThere (origin_of cell.now).core.value.config (view_of pass.old) (Q.call question) (Q.at question) (Q.reply a) (view_of pass.new)) }
+    ensures serves { IfOk result (λ a. ServesThere (origin_of cell.now).core.value.config
+        (view_of pass.old) (Q.call question) (Q.at question) (Q.reply a) (view_of pass.new)) }
     ensures back { IfOk result (λ a. Q.back question a) }
-    ensures lacks { IfErr result (λ q. (q ≡ question) × LacksThere (origin_of cell.now).core.value.config (view_of pass.old) (Q.lacks question) (view_of pass.new)) }
+    ensures lacks { IfErr result (λ q. (q ≡ question)
+        × LacksThere (origin_of cell.now).core.value.config (view_of pass.old) (Q.lacks question)
+        (view_of pass.new)) }
     ensures reader { KnowsChanges reader.new (past (view_of pass.new)) }
 {
     let caller = pass.number();
@@ -167,9 +187,11 @@ impl SharedHub {
         requires may { PassMay (knows pass.old) (Q.call question) }
         ensures own { IsOf self.now pass.new }
         ensures spares { SameSpares pass.old pass.new }
-        ensures serves { IfOk result (λ a. SharedServes (config_of self.now) (knows pass.old) (Q.call question) (Q.at question) (Q.reply a) (knows pass.new)) }
+        ensures serves { IfOk result (λ a. SharedServes (config_of self.now) (knows pass.old)
+            (Q.call question) (Q.at question) (Q.reply a) (knows pass.new)) }
         ensures back { IfOk result (λ a. Q.back question a) }
-        ensures unanswered { IfErr result (IsUnanswered self.now (knows pass.old) question (Q.call question) (Q.lacks question) (knows pass.new)) }
+        ensures unanswered { IfErr result (IsUnanswered self.now (knows pass.old) question
+            (Q.call question) (Q.lacks question) (knows pass.new)) }
     {
         let asked = self.announce_alone(rt, pass, question);
         self.keep_up(pass);
@@ -187,9 +209,11 @@ impl SharedHub {
         requires may { PassMay (knows pass.old) (Q.call question) }
         ensures own { IsAlone self.now pass.new }
         ensures spares { SameSpares pass.old pass.new × (pass.new.lender ≡ pass.old.lender) }
-        ensures serves { IfOk result (λ a. SharedServes (config_of self.now) (knows pass.old) (Q.call question) (Q.at question) (Q.reply a) (knows pass.new)) }
+        ensures serves { IfOk result (λ a. SharedServes (config_of self.now) (knows pass.old)
+            (Q.call question) (Q.at question) (Q.reply a) (knows pass.new)) }
         ensures back { IfOk result (λ a. Q.back question a) }
-        ensures unanswered { IfErr result (IsUnanswered self.now (knows pass.old) question (Q.call question) (Q.lacks question) (knows pass.new)) }
+        ensures unanswered { IfErr result (IsUnanswered self.now (knows pass.old) question
+            (Q.call question) (Q.lacks question) (knows pass.new)) }
     {
         // For the proof alone: the caller's other tokens stay good.
         token_laws();

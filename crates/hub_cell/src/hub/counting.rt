@@ -20,7 +20,8 @@ pub(crate) fn counted_enqueue<L: Ledger>(
     requires name { blank.name ≡ L.name }
     requires parts { blank.parts ≡ L.parts }
     requires some { 0 < L.parts }
-    ensures { CoreServes core.old core.new caller (Call.enqueue choices) at.0 (enqueued_reply result) }
+    ensures { CoreServes core.old core.new caller (Call.enqueue choices) at.0
+        (enqueued_reply result) }
 {
     core.enqueue(caller, choices, at, &mut Steps::<L>::new(blank))
 }
@@ -35,7 +36,8 @@ pub(crate) fn counted_poll<L: Ledger>(
     requires name { blank.name ≡ L.name }
     requires parts { blank.parts ≡ L.parts }
     requires some { 0 < L.parts }
-    ensures serves { CoreServes core.old core.new caller (Call.poll ticket) at.0 (polled_reply result) }
+    ensures serves { CoreServes core.old core.new caller (Call.poll ticket) at.0
+        (polled_reply result) }
     ensures back { KeepsTicket ticket result }
 {
     core.poll(caller, ticket, at, &mut Steps::<L>::new(blank))
@@ -67,7 +69,8 @@ pub(crate) fn counted_bind<L: Ledger>(
     requires name { blank.name ≡ L.name }
     requires parts { blank.parts ≡ L.parts }
     requires some { 0 < L.parts }
-    ensures serves { CoreServes core.old core.new caller (Call.bind reservation session caps) at.0 (binding_reply result) }
+    ensures serves { CoreServes core.old core.new caller (Call.bind reservation session caps) at.0
+        (binding_reply result) }
     ensures back { KeepsReservation reservation session result }
     ensures sure { HasRoomFor core.old session → is_some (binding_reply result) ≡ true }
 {
@@ -86,7 +89,8 @@ pub(crate) fn counted_fail<L: Ledger>(
     requires name { blank.name ≡ L.name }
     requires parts { blank.parts ≡ L.parts }
     requires some { 0 < L.parts }
-    ensures { CoreServes core.old core.new caller (Call.fail reservation why) at.0 (failing_reply result) }
+    ensures { CoreServes core.old core.new caller (Call.fail reservation why) at.0
+        (failing_reply result) }
 {
     core.fail(caller, reservation, why, at, &mut Steps::<L>::new(blank))
 }

@@ -23,7 +23,8 @@ impl SharedHub {
         ensures own { IsOf self.now pass.new }
         ensures same { (knows pass.new ≡ knows pass.old) × SameSpares pass.old pass.new }
         ensures lender { lender_of pass.new ≡ Some (following (knows lender) (knows pass.old)) }
-        ensures reader { (knows pass.old).since ≤ (knows lender).since → reader_of pass.new ≡ reader_of lender }
+        ensures reader { (knows pass.old).since ≤ (knows lender).since →
+            reader_of pass.new ≡ reader_of lender }
     {
         let (inner, mut reader, spares) = lender.into_parts();
         let mut lender = Lender { inner, spares };
@@ -37,8 +38,10 @@ impl SharedHub {
         requires own { IsOf self.now pass.old }
         ensures own { IsOf self.now pass.new }
         ensures same { (knows pass.new ≡ knows pass.old) × SameSpares pass.old pass.new }
-        ensures lender { IfSome result (λ p. IsOf self.now p × (lender_of pass.old ≡ Some (knows p)) × (reader_of p ≡ reader_of pass.old)) }
-        ensures left { IfSome result (λ p. (lender_of pass.new ≡ None) × IsDeaf (reader_of pass.new)) }
+        ensures lender { IfSome result (λ p. IsOf self.now p × (lender_of pass.old ≡ Some (knows p))
+            × (reader_of p ≡ reader_of pass.old)) }
+        ensures left { IfSome result (λ p. (lender_of pass.new ≡ None)
+            × IsDeaf (reader_of pass.new)) }
         ensures none { IfNone result ((lender_of pass.old ≡ None) × (pass.new ≡ pass.old)) }
     {
         let lender = pass.lender.take()?;
@@ -68,10 +71,12 @@ fn catch_up(
     reader: &mut MapReader,
 )
     requires lender { IsLender hub.now lender.old }
-    requires pass { cells.IsOf hub.now.cell pass.old × IsFree pass.old × (is_legal (view_of pass.old).origin (view_of pass.old).seen ≡ true) }
+    requires pass { cells.IsOf hub.now.cell pass.old × IsFree pass.old
+        × (is_legal (view_of pass.old).origin (view_of pass.old).seen ≡ true) }
     requires reader { KnowsChanges reader.old (past (view_of pass.old)) }
     ensures lender { HasLent hub.now reader.new lender.new }
-    ensures pass { cells.IsOf hub.now.cell pass.new × IsFree pass.new × (view_of pass.new ≡ view_of pass.old) }
+    ensures pass { cells.IsOf hub.now.cell pass.new × IsFree pass.new
+        × (view_of pass.new ≡ view_of pass.old) }
     ensures reader { KnowsChanges reader.new (past (view_of pass.new)) }
 {
     if !hub.cell.follow(&mut lender.inner, pass) {
@@ -88,12 +93,17 @@ fn see_too(
     reader: &mut MapReader,
 )
     requires lender { HasLent hub.now reader.old lender.old }
-    requires pass { cells.IsOf hub.now.cell pass.old × IsFree pass.old × (is_legal (view_of pass.old).origin (view_of pass.old).seen ≡ true) }
+    requires pass { cells.IsOf hub.now.cell pass.old × IsFree pass.old
+        × (is_legal (view_of pass.old).origin (view_of pass.old).seen ≡ true) }
     ensures lender { HasLent hub.now reader.new lender.new }
-    ensures sees { (view_of lender.new.inner ≡ following (view_of lender.old.inner) (view_of pass.old)) × (lender.new.spares ≡ lender.old.spares) }
-    ensures pass { cells.IsOf hub.now.cell pass.new × IsFree pass.new × (view_of pass.new ≡ view_of pass.old) }
+    ensures sees { (view_of lender.new.inner
+        ≡ following (view_of lender.old.inner) (view_of pass.old))
+        × (lender.new.spares ≡ lender.old.spares) }
+    ensures pass { cells.IsOf hub.now.cell pass.new × IsFree pass.new
+        × (view_of pass.new ≡ view_of pass.old) }
     ensures reader { KnowsChanges reader.new (past (view_of pass.new)) }
-    ensures kept { (view_of pass.old).since ≤ (view_of lender.old.inner).since → reader.new ≡ reader.old }
+    ensures kept { (view_of pass.old).since ≤ (view_of lender.old.inner).since →
+        reader.new ≡ reader.old }
 {
     if hub.cell.follow(&mut lender.inner, pass) {
         *reader = MapReader::without_place();
@@ -103,8 +113,10 @@ fn see_too(
 impl Lender {
     /// The pass that it is with its reader.
     fn into_pass(self, reader: MapReader) -> Pass
-        requires { IsFree self.inner × (is_legal (view_of self.inner).origin (view_of self.inner).seen ≡ true) }
-        ensures { (result.inner ≡ self.inner) × (result.reader ≡ reader) × (spares_of result ≡ self.spares) × (result.lender ≡ None) }
+        requires { IsFree self.inner × (is_legal (view_of self.inner).origin
+            (view_of self.inner).seen ≡ true) }
+        ensures { (result.inner ≡ self.inner) × (result.reader ≡ reader)
+            × (spares_of result ≡ self.spares) × (result.lender ≡ None) }
     {
         let Lender { inner, spares } = self;
         Pass {

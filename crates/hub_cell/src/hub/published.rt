@@ -17,7 +17,8 @@ impl SharedHub {
         ensures own { IsOf self.now pass.new }
         ensures spares { SameSpares pass.old pass.new }
         ensures noted { knows pass.new ≡ noting session.now result (knows pass.old) }
-        ensures found { IfSome result (FromMap (reader_of pass.old) (reader_of pass.new) (past (knows pass.old)) session.now) }
+        ensures found { IfSome result (FromMap (reader_of pass.old) (reader_of pass.new)
+            (past (knows pass.old)) session.now) }
     {
         let found = pass.reader.find(session)?;
         if let Found::At { .. } = &found {

@@ -37,7 +37,10 @@ impl HubCore {
         _at: Moment,
     ) -> Readied
         ensures keeps { CoreKeeps self.old self.new }
-        ensures tells { CoreTells self.old (λ H. (caller : ℕ) → MayCall H caller (Call.bind reservation.now session.now caps.now) → ReadiedTells self.old.config H caller reservation.now session.now caps.now _at.0 result) }
+        ensures tells { CoreTells self.old (λ H. (caller : ℕ) →
+            MayCall H caller (Call.bind reservation.now session.now caps.now) →
+            ReadiedTells self.old.config H caller reservation.now session.now caps.now _at.0
+            result) }
         ensures room { RoomIfBinds self.new session.now result }
     {
         history_laws();
@@ -55,7 +58,9 @@ impl HubCore {
 
     /// Whether `end` will end the session.
     pub fn ending(&self, session: &SessionId, binding: ReqNo) -> bool
-        ensures { CoreTells self.now (λ H. (caller at : ℕ) → Publishes self.now.config H caller (Call.end session.now binding) at (removal_in (ends_session result session.now))) }
+        ensures { CoreTells self.now (λ H. (caller at : ℕ) →
+            Publishes self.now.config H caller (Call.end session.now binding) at
+            (removal_in (ends_session result session.now))) }
     {
         history_laws();
         match self.seat(session, binding) {
@@ -66,7 +71,8 @@ impl HubCore {
 
     /// The session that `expire` will end.
     pub fn expiring(&self, at: Moment) -> Option<SessionId>
-        ensures { CoreTells self.now (λ H. (caller : ℕ) → Publishes self.now.config H caller Call.expire at.0 (removal_in result)) }
+        ensures { CoreTells self.now (λ H. (caller : ℕ) →
+            Publishes self.now.config H caller Call.expire at.0 (removal_in result)) }
     {
         history_laws();
         let now = self.tables.raised(at);
@@ -78,7 +84,9 @@ impl HubCore {
 
     /// The sessions that `sweep` will end with their nodes, in the order of its entries.
     pub fn lapsing(&self, at: Moment) -> Result<Sessions, NoMemory>
-        ensures { IfOk result (λ sessions. CoreTells self.now (λ H. (caller : ℕ) → Publishes self.now.config H caller Call.sweep at.0 (removals_of sessions))) }
+        ensures { IfOk result (λ sessions. CoreTells self.now
+            (λ H. (caller : ℕ) → Publishes self.now.config H caller Call.sweep at.0
+            (removals_of sessions))) }
     {
         history_laws();
         let now = self.tables.raised(at);
@@ -93,7 +101,9 @@ impl HubCore {
 
     /// Adds the sessions that run on a node.
     fn push_sessions(&self, node: NodeNo, sessions: &mut Sessions) -> Result<(), NoMemory>
-        ensures { OnOk result (CoreTells self.now (λ H. is_registered H node ≡ true → sessions.new ≡ sessions.old ++ sessions_on H node)) }
+        ensures { OnOk result (CoreTells self.now
+            (λ H. is_registered H node ≡ true →
+            sessions.new ≡ sessions.old ++ sessions_on H node)) }
     {
         push_busy(self.tables.uses(node), sessions)
     }

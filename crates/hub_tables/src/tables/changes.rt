@@ -26,7 +26,9 @@ impl HubTables {
     ) -> Result<(), NoMemory>
         requires sized { length (stereotypes registration.now.groups) ≤ MOST_SLOTS }
         requires numbers { node_number self.old < 2 ^ 32 - 1 }
-        ensures noted { OnOk result ((caller : ℕ) → Notes self.old self.new caller (change.Registered (node_number self.old) registration.now at)) }
+        ensures noted { OnOk result ((caller : ℕ) →
+            Notes self.old self.new caller (change.Registered (node_number self.old)
+            registration.now at)) }
         ensures refused { OnErr result (Keeps self.old self.new) }
     {
         table_laws();
@@ -42,7 +44,8 @@ impl HubTables {
 
     /// The number below which no slot fits a request once the node gave a sign: slots of a suspect one may fit any.
     fn below_after_beat(&self, node: NodeNo) -> ReqNo
-        ensures { Tells self.now (λ H. result ≡ (if is_suspect H node then 0 else self.now.searched_below)) }
+        ensures { Tells self.now (λ H. result
+            ≡ (if is_suspect H node then 0 else self.now.searched_below)) }
     {
         if self.nodes.is_suspect(node) {
             0
@@ -115,7 +118,8 @@ impl HubTables {
     ) -> Result<(), NoMemory>
         requires written { bytes ≡ request_bytes choices }
         requires numbers { request_number self.old < 2 ^ 64 - 1 }
-        ensures noted { OnOk result (Notes self.old self.new caller (change.Queued (request_number self.old) choices deadline at)) }
+        ensures noted { OnOk result (Notes self.old self.new caller
+            (change.Queued (request_number self.old) choices deadline at)) }
         ensures refused { OnErr result (Keeps self.old self.new) }
     {
         table_laws();
@@ -137,7 +141,8 @@ impl HubTables {
         choice: u16,
         at: Moment,
     ) -> Result<(), NoMemory>
-        ensures noted { OnOk result (Notes self.old self.new caller (change.Reserved request slot choice at)) }
+        ensures noted { OnOk result (Notes self.old self.new caller
+            (change.Reserved request slot choice at)) }
         ensures refused { OnErr result (Keeps self.old self.new) }
     {
         table_laws();
@@ -162,7 +167,8 @@ impl HubTables {
         at: Moment,
         address: NodeAddress,
     ) -> Result<(), NoMemory>
-        ensures noted { OnOk result (NotesGiven (λ H. address ≡ address_of H slot.node) self.old self.new caller (change.Bound request slot session caps at)) }
+        ensures noted { OnOk result (NotesGiven (λ H. address ≡ address_of H slot.node) self.old
+            self.new caller (change.Bound request slot session caps at)) }
         ensures refused { OnErr result (Keeps self.old self.new) }
         ensures sure { HasRoomFor self.old session → IsOk result }
     {
@@ -191,7 +197,8 @@ impl HubTables {
         last: bool,
         at: Moment,
     )
-        ensures noted { Notes self.old self.new caller (change.Failed request slot why.now (option_copied orphan.entry) last at) }
+        ensures noted { Notes self.old self.new caller
+            (change.Failed request slot why.now (option_copied orphan.entry) last at) }
         ensures gone { Forgets self.new slot.node }
     {
         table_laws();
@@ -225,8 +232,10 @@ impl HubTables {
     /// The outcome of a request is handed out.
     pub fn note_taken(&mut self, request: ReqNo, at: Moment) -> Option<Outcome>
         ensures noted { (caller : ℕ) → Notes self.old self.new caller (change.Taken request at) }
-        ensures outcome { Tells self.old (λ H. (o : Settling) → place H request ≡ settled o → result ≡ Some o) }
-        ensures only { Tells self.old (λ H. (o : Settling) → result ≡ Some o → place H request ≡ settled o) }
+        ensures outcome { Tells self.old (λ H. (o : Settling) → place H request ≡ settled o →
+            result ≡ Some o) }
+        ensures only { Tells self.old (λ H. (o : Settling) → result ≡ Some o →
+            place H request ≡ settled o) }
     {
         table_laws();
         let outcome = self.requests.taken(request, at);
@@ -252,7 +261,8 @@ impl HubTables {
         at: Moment,
         slot: SlotId,
     )
-        ensures { NotesGiven (λ H. bound_slot H binding ≡ Some slot) self.old self.new caller (change.Ended binding cause at) }
+        ensures { NotesGiven (λ H. bound_slot H binding ≡ Some slot) self.old self.new caller
+            (change.Ended binding cause at) }
     {
         table_laws();
         self.sessions.ended(binding, cause, at);

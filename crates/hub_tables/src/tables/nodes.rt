@@ -40,7 +40,8 @@ impl HubTables {
 
     /// The moment of a listed node's last sign. It takes no memory.
     pub fn beat(&self, node: NodeNo) -> Option<Moment>
-        ensures listed { Tells self.now (λ H. is_listed H node ≡ true → result ≡ Some (record { 0 = beat_of H node })) }
+        ensures listed { Tells self.now (λ H. is_listed H node ≡ true →
+            result ≡ Some (record { 0 = beat_of H node })) }
         ensures unknown { HasNoRow self.now node → result ≡ None }
     {
         self.nodes.beat(node)
@@ -56,7 +57,8 @@ impl HubTables {
 
     /// What a listed node said of itself. It takes no memory.
     pub fn registration(&self, node: NodeNo) -> Option<&Registration>
-        ensures listed { Tells self.now (λ H. is_listed H node ≡ true → option_copied result ≡ registration_of H node) }
+        ensures listed { Tells self.now (λ H. is_listed H node ≡ true →
+            option_copied result ≡ registration_of H node) }
         ensures unknown { HasNoRow self.now node → result ≡ None }
     {
         self.nodes.registration(node)
@@ -85,14 +87,16 @@ impl HubTables {
 
     /// What the slots of a registered node are given to, by their places in it.
     pub fn uses(&self, node: NodeNo) -> &[SlotUse]
-        ensures { Tells self.now (λ H. is_registered H node ≡ true → map holder_of result.now ≡ map (holder H) (slots_of H node)) }
+        ensures { Tells self.now (λ H. is_registered H node ≡ true →
+            map holder_of result.now ≡ map (holder H) (slots_of H node)) }
     {
         self.slots.uses(node)
     }
 
     /// The first node, of this number or a greater one, that was silent for too long. It takes no memory.
     pub fn next_lapsed(&self, from: u64, now: Moment, config: &HubConfig) -> Option<NodeNo>
-        ensures first { Tells self.now (λ H. result ≡ find (nat_le from) (lapsed_nodes config.now H now.0)) }
+        ensures first { Tells self.now (λ H. result
+            ≡ find (nat_le from) (lapsed_nodes config.now H now.0)) }
         ensures later { IfSome result (λ n. from ≤ n) }
     {
         first_lapsed(&self.nodes, from, now, config)
@@ -100,7 +104,8 @@ impl HubTables {
 
     /// The first node, of this number or a greater one, that is silent and not suspect yet. It takes no memory.
     pub fn next_silent(&self, from: u64, now: Moment, config: &HubConfig) -> Option<NodeNo>
-        ensures first { Tells self.now (λ H. result ≡ find (nat_le from) (silent_nodes config.now H now.0)) }
+        ensures first { Tells self.now (λ H. result
+            ≡ find (nat_le from) (silent_nodes config.now H now.0)) }
         ensures later { IfSome result (λ n. from ≤ n) }
     {
         first_silent(&self.nodes, from, now, config)

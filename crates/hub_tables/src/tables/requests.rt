@@ -18,7 +18,8 @@ use std::sync::ledger::Ledger;
 impl HubTables {
     /// What is known of a request; nothing of one that was never queued or whose outcome was handed out.
     pub fn request(&self, request: ReqNo) -> Option<&Request>
-        ensures { Tells self.now (λ H. MatchOption result (is_gone (place H request) ≡ true) (λ q. RowTells q.now H request)) }
+        ensures { Tells self.now (λ H. MatchOption result (is_gone (place H request) ≡ true)
+            (λ q. RowTells q.now H request)) }
     {
         self.requests.get(request)
     }
@@ -46,14 +47,16 @@ impl HubTables {
 
     /// Whether a failure of the request on the slot that is held for it settles it. It takes no memory.
     pub fn is_last<L: Ledger>(&self, request: ReqNo, steps: &mut Steps<L>) -> bool
-        ensures { Tells self.now (λ H. (slot : SlotId) → holder H slot ≡ held request → result ≡ is_last H request slot) }
+        ensures { Tells self.now (λ H. (slot : SlotId) → holder H slot ≡ held request →
+            result ≡ is_last H request slot) }
     {
         hub_walks::is_last(&self.nodes, &self.requests, request, steps)
     }
 
     /// The first waiting request after this one. It takes no memory.
     pub fn next_waiting(&self, request: ReqNo) -> Option<ReqNo>
-        ensures first { Tells self.now (λ H. result ≡ find (nat_le (request + 1)) (waiting_requests H)) }
+        ensures first { Tells self.now (λ H. result
+            ≡ find (nat_le (request + 1)) (waiting_requests H)) }
         ensures later { IfSome result (λ r. request < r) }
     {
         waiting_after(&self.requests, request)
@@ -61,7 +64,8 @@ impl HubTables {
 
     /// The first request after this one that is not settled and whose deadline is reached. It takes no memory.
     pub fn next_overdue(&self, request: ReqNo, now: Moment) -> Option<ReqNo>
-        ensures first { Tells self.now (λ H. result ≡ find (nat_le (request + 1)) (overdue_requests H now.0)) }
+        ensures first { Tells self.now (λ H. result
+            ≡ find (nat_le (request + 1)) (overdue_requests H now.0)) }
         ensures later { IfSome result (λ r. request < r) }
     {
         overdue_after(&self.requests, request, now)

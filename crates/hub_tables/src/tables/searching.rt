@@ -22,7 +22,8 @@ impl HubTables {
         steps: &mut Steps<L>,
     ) -> Option<Assignment>
         ensures answer { Tells self.now (λ H. option_map as_chosen result ≡ chosen H now.0) }
-        ensures cost { Tells self.now (λ H. steps.new ≤ steps.old + choices_in H (kinds H) * groups_up H (nodes_of H)) }
+        ensures cost { Tells self.now (λ H. steps.new
+            ≤ steps.old + choices_in H (kinds H) * groups_up H (nodes_of H)) }
     {
         let first = self.first_to_search(now);
         hub_walks::chosen(&self.nodes, &self.slots, &self.requests, first, now, steps)

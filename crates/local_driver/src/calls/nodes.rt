@@ -1,5 +1,5 @@
 //! Calls of nodes.
-ghost use Rattle.std.specs.Prelude.{◌≡◌, true};
+ghost use Rattle.std.specs.Prelude.{◌≡◌, true, None, Some};
 ghost use Rattle.grid_types.specs.Calls.{Call};
 ghost use Rattle.hub_core.specs.HubView.{past};
 ghost use Rattle.hub_core.specs.Serves.{MayCall};
@@ -7,7 +7,7 @@ ghost use Rattle.local_driver.specs.Calls.{Made};
 
 use crate::calls::has_room;
 use conn_script::HubAnswer;
-use grid_types::{Moment, NodeNo, Registration};
+use grid_types::{Moment, NodeNo, Registration, Text};
 use hub_core::{LocalHub, Registering};
 
 pub(crate) fn register(hub: &mut LocalHub, node: Registration, at: Moment) -> HubAnswer
@@ -21,10 +21,19 @@ pub(crate) fn register(hub: &mut LocalHub, node: Registration, at: Moment) -> Hu
 }
 
 pub(crate) fn beat(hub: &mut LocalHub, node: NodeNo, at: Moment) -> HubAnswer
-    ensures { Made hub.old (Call.beat node) at.0 result hub.new }
+    ensures { Made hub.old (Call.beat node None) at.0 result hub.new }
 {
     if has_room(hub) {
         return HubAnswer::Beat(hub.beat(node, at));
+    }
+    HubAnswer::NoRoom
+}
+
+pub(crate) fn beat_as(hub: &mut LocalHub, node: NodeNo, name: &Text, at: Moment) -> HubAnswer
+    ensures { Made hub.old (Call.beat node (Some name.now)) at.0 result hub.new }
+{
+    if has_room(hub) {
+        return HubAnswer::Beat(hub.beat_as(node, name, at));
     }
     HubAnswer::NoRoom
 }

@@ -26,7 +26,9 @@ fn waits_like(other: &Request, asked: &Request) -> bool
 
 /// The first waiting request after a number that is of the kind.
 fn first_like(requests: &BTreeMap<ReqNo, Request>, after: ReqNo, asked: &Request) -> Option<ReqNo>
-    ensures first { result ≡ option_map (λ e. e.0) (find (λ e. is_waiting (place_of e.1.stage) && is_like asked.now e.1) (entries_between nat_cmp (Excluded after) Unbounded requests.now.entries)) }
+    ensures first { result ≡ option_map (λ e. e.0)
+        (find (λ e. is_waiting (place_of e.1.stage) && is_like asked.now e.1)
+        (entries_between nat_cmp (Excluded after) Unbounded requests.now.entries)) }
     ensures ordered { IsOrdered nat_cmp requests.now }
 {
     let (number, _) = requests
@@ -37,7 +39,8 @@ fn first_like(requests: &BTreeMap<ReqNo, Request>, after: ReqNo, asked: &Request
 
 /// Whether a request waits, its deadline is ahead, and it is of another's kind.
 fn waits_in_time(other: &Request, asked: &Request, at: Moment) -> bool
-    ensures { result ≡ (is_waiting (place_of other.now.stage) && (nat_lt at.0 other.now.deadline.0 && is_like asked.now other.now)) }
+    ensures { result ≡ (is_waiting (place_of other.now.stage) &&
+        (nat_lt at.0 other.now.deadline.0 && is_like asked.now other.now)) }
 {
     other.stage.is_waiting() && at < other.deadline && is_like(asked, other)
 }
@@ -49,7 +52,10 @@ fn first_in_time(
     asked: &Request,
     at: Moment,
 ) -> Option<ReqNo>
-    ensures first { result ≡ option_map (λ e. e.0) (find (λ e. is_waiting (place_of e.1.stage) && (nat_lt at.0 e.1.deadline.0 && is_like asked.now e.1)) (entries_between nat_cmp (Included from) Unbounded requests.now.entries)) }
+    ensures first { result ≡ option_map (λ e. e.0)
+        (find (λ e. is_waiting (place_of e.1.stage) &&
+        (nat_lt at.0 e.1.deadline.0 && is_like asked.now e.1))
+        (entries_between nat_cmp (Included from) Unbounded requests.now.entries)) }
     ensures ordered { IsOrdered nat_cmp requests.now }
 {
     let (number, _) = requests
@@ -61,7 +67,8 @@ fn first_in_time(
 impl RequestTable {
     /// The first waiting request of a lead's kind whose deadline is ahead: mostly the lead itself. It takes no memory.
     pub fn in_time_of(&self, lead: ReqNo, at: Moment) -> Option<ReqNo>
-        ensures { Tells Stands self.now (λ H. is_waiting (place H lead) ≡ true → FindsInTime H lead at.0 result) }
+        ensures { Tells Stands self.now (λ H. is_waiting (place H lead) ≡ true →
+            FindsInTime H lead at.0 result) }
     {
         queue_laws();
         match self.find(lead) {
@@ -105,7 +112,8 @@ impl RequestTable {
 
     fn pass_on(&mut self, request: ReqNo)
         ensures rows { SameRows self.old self.new }
-        ensures leads { list_any (nat_eq request) self.old.leads.items ≡ true → Leaves self.old self.new request }
+        ensures leads { list_any (nat_eq request) self.old.leads.items ≡ true →
+            Leaves self.old self.new request }
     {
         queue_laws();
         let next = self.next_like(request);
@@ -159,7 +167,9 @@ impl RequestTable {
 
     /// The lead that is of the request's kind.
     fn lead_of(&self, request: ReqNo) -> Option<ReqNo>
-        ensures { waits (row self.now request) ≡ true → result ≡ find (λ l. are_like (row self.now l) (row self.now request)) self.now.leads.items }
+        ensures { waits (row self.now request) ≡ true →
+            result ≡ find (λ l. are_like (row self.now l) (row self.now request))
+            self.now.leads.items }
     {
         match self.find(request) {
             Some(asked) => self.lead_like(asked).copied(),
@@ -168,7 +178,8 @@ impl RequestTable {
     }
 
     fn lead_like(&self, asked: &Request) -> Option<&ReqNo>
-        ensures { option_copied result ≡ find (λ l. are_like (row self.now l) (Some asked.now)) self.now.leads.items }
+        ensures { option_copied result ≡ find (λ l. are_like (row self.now l) (Some asked.now))
+            self.now.leads.items }
     {
         self.leads
             .iter()

@@ -5,7 +5,7 @@ use Rattle.router_core.specs.declared.routed.RouteFault.TheVariants as fault
 use Rattle.router_core.specs.Routes as routes
 use Rattle.conn_script.specs.declared.calling.Asked.TheVariants as asked
 use Rattle.conn_script.specs.declared.wants.HubCall.TheVariants as calls
-use Rattle.conn_script.specs.OneCall.{NodeCall, NodeCallLacks, Registers, RegisterLacks}
+use Rattle.conn_script.specs.OneCall.{NodeCall, NodeCallLacks, Beats, BeatsLack, Registers, RegisterLacks}
 use Rattle.conn_script.specs.DeleteSession.{DeleteSession, DeleteLacks}
 use Rattle.conn_script.specs.Relay.{Relay, RelayLacks, relayed}
 use Rattle.conn_script.specs.NewSession.{NewSession, EnqueueLacks}
@@ -50,8 +50,10 @@ pub returns-in-Ok-Beat-clause-turns : goal.returns-in-Ok-Beat-clause-turns
 returns-in-Ok-Beat-clause-turns c = λ f parts.
     let same : c.in-Ok-Beat.field-0 ≡ routed.Beat c.in-Ok-Beat.id = cc in
     let is = route_told_is c.args.whole f c.in-Ok-Beat.field-0 (routed.Beat c.in-Ok-Beat.id) parts c.in-Ok-Beat.ensures.ok same in
-    by_route f (Ok (routes.beat c.in-Ok-Beat.id.now)) (NodeCall (node_call asked.Beat) c.in-Ok-Beat.id.now) (NodeCallLacks (node_call asked.Beat) c.in-Ok-Beat.id.now) c.args.close
-    c.ask_node-in-Ok-Beat.result is (λ steps response p. p) (λ steps p. p) (c.ask_node-in-Ok-Beat.ensures.turns f)
+    let id = c.in-Ok-Beat.id.now in
+    let body = whole_of c.args.whole f parts in
+    by_route f (Ok (routes.beat id)) (Beats id c.args.whole.body.now) (BeatsLack id c.args.whole.body.now) c.args.close c.beat.result is
+    (λ steps response p. subst (λ (b : List ℕ). Beats id b steps response) body p) (λ steps p. subst (λ (b : List ℕ). BeatsLack id b steps) body p) (c.beat.ensures.turns f)
 
 pub returns-in-Ok-Register-clause-turns : goal.returns-in-Ok-Register-clause-turns
 returns-in-Ok-Register-clause-turns c = λ f parts.

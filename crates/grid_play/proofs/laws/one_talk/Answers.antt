@@ -8,6 +8,7 @@ returns c = record {
     both = c.a_text_is_refused_one_way.ensures.read;
     bodies = c.bodies_give_one_answer.ensures;
     registrations = c.registrations_give_one_answer.ensures;
+    beats = c.beats_give_one_answer.ensures;
     replies = c.replies_say_one_thing.ensures;
     connection = c.one_reading.ensures.connection;
   }) c.conversations_find_spent_last.ensures;

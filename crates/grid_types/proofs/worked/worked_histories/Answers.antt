@@ -181,6 +181,12 @@ returns-clause-nodes c = record {
   removed = refl;
   removed_once = refl;
   name_freed = refl;
+  own_beat = refl;
+  beat_of_the_other = refl;
+  beat_of_nobody = refl;
+  beat_of_no_number = refl;
+  beat_after_removal = refl;
+  other_beat_is_not_heard = refl;
 }
 
 pub returns-clause-lapse : goal.returns-clause-lapse
