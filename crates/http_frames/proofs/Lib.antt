@@ -28,3 +28,4 @@ mod WaitLemmas
 mod CalmLemmas
 mod CalmLineLemmas
 mod FaultyLemmas
+mod StayLemmas

@@ -1,5 +1,5 @@
 -- What a reader of requests stands for: the bytes that were fed since the last request.
-use Rattle.std.specs.Prelude.{◌≡◌, ◌≢◌, ℕ, ◌+◌, ◌^◌, ◌<◌, ◌≤◌, ◌⊎◌, Bool, true, false, IsTrue, List, [], ◌∷◌, ◌++◌, length, take, Option, MatchOption}
+use Rattle.std.specs.Prelude.{◌≡◌, ◌≢◌, ℕ, ◌+◌, ◌^◌, ◌<◌, ◌≤◌, ◌⊎◌, Bool, true, false, IsTrue, List, [], ◌∷◌, ◌++◌, length, take, Option, MatchOption, vec_capacity}
 use Rattle.httparse.specs.Ascii.{carriage_return}
 use Rattle.httparse.specs.Grammar.{RequestHead, ChunkLine, chunk_size}
 use Rattle.http_frames.specs.declared.FrameFault.TheVariants.{HeadTooLong, BadChunk, BodyTooLong}
@@ -227,6 +227,19 @@ abbrev pub KeepsFed : FrameReader → FrameReader → Type 0
 KeepsFed old new =
     (awaits_more new ≡ awaits_more old)
     × ((limits : FrameLimits) (bytes : List ℕ) → Fed limits old bytes → Fed limits new bytes)
+
+-- it stands for what it stood for, is as far, and holds the same bytes
+pub record Stays (old new : FrameReader) : Type 0 where
+  pub fed : (limits : FrameLimits) (bytes : List ℕ) → Fed limits old bytes → Fed limits new bytes
+  pub awaits : awaits_more new ≡ awaits_more old
+  pub whole : is_whole new ≡ is_whole old
+  pub kept : bytes_kept new ≡ bytes_kept old
+
+-- no memory is held for a head, a body or a line of which there is no byte
+pub record HasNoSpare (r : FrameReader) : Type 0 where
+  pub head : r.head.items ≡ [] → vec_capacity r.head ≡ 0
+  pub data_in : r.body.items ≡ [] → vec_capacity r.body ≡ 0
+  pub line : r.line.items ≡ [] → vec_capacity r.line ≡ 0
 
 -- the answer of a reader and that of `next_request` on the bytes that were fed say the same
 abbrev pub IsAlike : List ℕ → ReaderStep → Step → Type 0

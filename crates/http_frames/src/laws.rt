@@ -46,7 +46,8 @@ pub fn one_head()
         → IsAccepted limits buf h → IsAccepted limits buf k → h ≡ k }
     ensures none { (limits : FrameLimits) (h : RequestHead) → ¬ (IsAccepted limits [] h) }
     ensures nothing { (limits : FrameLimits) → 0 < limits.head → IsAwaited limits [] false }
-    ensures fault { (limits : FrameLimits) (buf : List ℕ) (why : FrameFault) → 0 < limits.head → IsRefused limits buf why → buf ≢ [] }
+    ensures fault { (limits : FrameLimits) (buf : List ℕ) (why : FrameFault) → 0 < limits.head →
+        IsRefused limits buf why → buf ≢ [] }
 {}
 
 /// A reader that was fed some bytes answers as `next_request` does on them, but that its body is one part.
@@ -77,8 +78,10 @@ pub fn written_is_read()
 
 /// The reason and the values of a message that was read may be written.
 pub fn read_is_writable()
-    ensures request { (h : RequestHead) (name : List ℕ) → IsRequestHead h → All IsValue (values_of name (headers_of h)) }
-    ensures response { (h : ResponseHead) (name : List ℕ) → IsResponseHead h → All IsValue (values_of name (reply_headers h)) }
+    ensures request { (h : RequestHead) (name : List ℕ) → IsRequestHead h →
+        All IsValue (values_of name (headers_of h)) }
+    ensures response { (h : ResponseHead) (name : List ℕ) → IsResponseHead h →
+        All IsValue (values_of name (reply_headers h)) }
     ensures reason { (h : ResponseHead) → IsResponseHead h → IsPhrase (reason_phrase h.reason) }
 {}
 

@@ -1,7 +1,7 @@
 //! A request that is read piece by piece.
-ghost use Rattle.std.specs.Prelude.{◌≡◌, ◌+◌, ◌-◌, ◌≤◌, ◌<◌, ◌++◌, IfOk, ℕ, List, [], true, false, take, length, OnErr, MatchOption};
+ghost use Rattle.std.specs.Prelude.{◌≡◌, ◌+◌, ◌-◌, ◌≤◌, ◌<◌, ◌++◌, IfOk, ℕ, List, [], true, false, take, length, OnErr, MatchOption, vec_capacity};
 ghost use Rattle.http_frames.specs.declared.frames.FrameLimits.{FrameLimits};
-ghost use Rattle.http_frames.specs.Feeding.{Fed, StandsForSome, IsFirstPhase, IsPhaseBehind, IsPhaseBehindLine, IsPhaseOfSized, IsPhaseOfData, IsPhaseAt, IsAtEnd, awaits_more, is_whole, is_whole_step, is_more, bytes_kept, IsReaderStep, IsHeadFound, IsWaiting, Feeds, KeepsFed};
+ghost use Rattle.http_frames.specs.Feeding.{Fed, StandsForSome, IsFirstPhase, IsPhaseBehind, IsPhaseBehindLine, IsPhaseOfSized, IsPhaseOfData, IsPhaseAt, IsAtEnd, awaits_more, is_whole, is_whole_step, is_more, bytes_kept, IsReaderStep, IsHeadFound, IsWaiting, Feeds, KeepsFed, Stays, HasNoSpare};
 
 use crate::FrameFault;
 use crate::calm::{
@@ -111,7 +111,8 @@ impl FrameReader {
 
     /// What the bytes are that were fed since the last `next`. Takes no memory.
     pub fn step(&self) -> ReaderStep<'_>
-        ensures told { (limits : FrameLimits) (bytes : List ℕ) → Fed limits self.now bytes → IsReaderStep limits bytes result }
+        ensures told { (limits : FrameLimits) (bytes : List ℕ) → Fed limits self.now bytes →
+            IsReaderStep limits bytes result }
         ensures more { StandsForSome self.now → is_more result ≡ awaits_more self.now }
         ensures whole { StandsForSome self.now → is_whole_step result ≡ is_whole self.now }
     {
@@ -127,7 +128,8 @@ impl FrameReader {
 
     /// The head, where it is accepted. Takes no memory.
     pub fn head(&self) -> Option<Head<'_>>
-        ensures { (limits : FrameLimits) (bytes : List ℕ) → Fed limits self.now bytes → IsHeadFound limits bytes result }
+        ensures { (limits : FrameLimits) (bytes : List ℕ) → Fed limits self.now bytes →
+            IsHeadFound limits bytes result }
     {
         match self.phase {
             Phase::Head => None,
@@ -155,7 +157,8 @@ impl FrameReader {
     /// Drops the whole request. Takes no memory.
     pub fn next(&mut self)
         requires { is_whole self.old ≡ true }
-        ensures { (limits : FrameLimits) (bytes : List ℕ) → Fed limits self.old bytes → Fed limits self.new [] }
+        ensures { (limits : FrameLimits) (bytes : List ℕ) → Fed limits self.old bytes →
+            Fed limits self.new [] }
     {
         self.head.clear();
         self.body.clear();
@@ -165,9 +168,21 @@ impl FrameReader {
         self.phase = first_phase(self.limits);
     }
 
+    /// Gives back the memory of each buffer that has no byte, as those of a request that was dropped. It stands for what it
+    /// stood for. Takes no memory.
+    pub fn shrink(&mut self)
+        ensures stays { Stays self.old self.new }
+        ensures gives { HasNoSpare self.new }
+    {
+        give_back(&mut self.head);
+        give_back(&mut self.body);
+        give_back(&mut self.line);
+    }
+
     /// How many bytes it holds. Takes no memory.
     pub fn kept(&self) -> u64
-        ensures held { (limits : FrameLimits) (bytes : List ℕ) → Fed limits self.now bytes → result ≡ bytes_kept self.now }
+        ensures held { (limits : FrameLimits) (bytes : List ℕ) → Fed limits self.now bytes →
+            result ≡ bytes_kept self.now }
         ensures bound { (limits : FrameLimits) (bytes : List ℕ) → Fed limits self.now bytes
             → result ≤ limits.head + limits.body + MAX_TRAILERS }
     {
@@ -178,7 +193,9 @@ impl FrameReader {
 
     /// The request, where it is whole.
     fn whole(&self) -> ReaderStep<'_>
-        ensures told { (limits : FrameLimits) (bytes : List ℕ) → IsAtEnd limits self.now bytes → IsReaderStep limits bytes result × (is_whole_step result ≡ true) × (is_more result ≡ false) }
+        ensures told { (limits : FrameLimits) (bytes : List ℕ) → IsAtEnd limits self.now bytes →
+            IsReaderStep limits bytes result × (is_whole_step result ≡ true)
+            × (is_more result ≡ false) }
     {
         let head = self.head.as_slice();
         let mut headers = [EMPTY_HEADER_SPAN; 100];
@@ -294,7 +311,8 @@ impl FrameReader {
     /// What follows a chunk line with this size.
     fn phase_behind_line(&self, size: u64) -> Phase
         requires { length self.now.body.items ≤ self.now.limits.body }
-        ensures { IsPhaseBehindLine (self.now.limits.body - length self.now.body.items) size result }
+        ensures { IsPhaseBehindLine (self.now.limits.body - length self.now.body.items) size
+            result }
     {
         if size == 0 {
             Phase::Trailers
@@ -434,6 +452,16 @@ fn phase_at(wanted: u8, next: Phase, byte: u8) -> Phase
         next
     } else {
         Phase::BadBody(FrameFault::BadChunk)
+    }
+}
+
+/// Gives back the memory of a buffer without a byte. One with bytes is left as it is, since to move them takes time.
+fn give_back(buffer: &mut Vec<u8>)
+    ensures same { buffer.new.items ≡ buffer.old.items }
+    ensures gives { buffer.new.items ≡ [] → vec_capacity buffer.new ≡ 0 }
+{
+    if buffer.is_empty() {
+        buffer.shrink_to_fit();
     }
 }
 

@@ -15,3 +15,4 @@ mod CallLemmas
 mod SpentLemmas
 mod KeptLemmas
 mod WantLemmas
+mod RestLemmas

@@ -1,8 +1,9 @@
 -- The bytes that came and are not answered yet.
-use Rattle.std.specs.Prelude.{◌≡◌, ◌≢◌, ℕ, ◌+◌, ◌≤◌, Bool, true, List, [], ◌++◌, length, drop}
+use Rattle.std.specs.Prelude.{◌≡◌, ◌≢◌, ℕ, ◌+◌, ◌≤◌, Bool, true, List, [], ◌++◌, length, drop, vec_capacity}
 use Rattle.http_frames.specs.declared.frames.TheConstants.{LIMITS}
 use Rattle.http_frames.specs.Frames.{Request, IsWhole, IsAwaited, IsRefused, closes}
 use Rattle.http_frames.specs.Feeding.{Fed, awaits_more, is_whole, bytes_kept}
+use Rattle.http_frames.specs.Feeding as reader
 use Rattle.conn_script.specs.declared.wants.TheConstants.{PIECE}
 use Rattle.hub_conn.specs.declared.inbox.Inbox.{Inbox}
 use Rattle.hub_conn.specs.declared.inbox.Seen.{Seen}
@@ -45,6 +46,17 @@ HoldsWhole inbox bytes f =
 
 abbrev pub HoldsSomeWhole : Inbox → Type 0
 HoldsSomeWhole inbox = (bytes : List ℕ) × (f : Request) × HoldsWhole inbox bytes f
+
+-- it holds what it held, of which as much was read
+pub record HoldsSame (old new : Inbox) : Type 0 where
+  pub holds : (bytes : List ℕ) → Holds old bytes → Holds new bytes
+  pub whole : (bytes : List ℕ) (f : Request) → HoldsWhole old bytes f → HoldsWhole new bytes f
+  pub unread_is : unread new ≡ unread old
+
+-- no memory is held for bytes that aren't there or are done with
+pub record HasNoSpare (inbox : Inbox) : Type 0 where
+  pub piece : unread inbox ≡ [] → vec_capacity inbox.piece ≡ 0
+  pub reader : reader.HasNoSpare inbox.reader
 
 -- what stands at the front
 abbrev pub IsSeen : Inbox → List ℕ → Seen → Type 0

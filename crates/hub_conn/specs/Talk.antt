@@ -44,6 +44,7 @@ use Rattle.hub_conn.specs.declared.talk.Kept.{Kept}
 use Rattle.hub_conn.specs.declared.talk.Kept.TheVariants as kept
 use Rattle.hub_conn.specs.Conversation.{WriteBroke, Answers, Scripts, ReadsTo, Waits, Talked, Finished, IsUnended}
 use Rattle.hub_conn.specs.Inbox.{unread, keeps_bytes, most_read, Holds, HoldsSome, HoldsWhole}
+use Rattle.hub_conn.specs.Inbox as inbox
 use Rattle.hub_conn.specs.Work.{FeedsLess, KeepsWork}
 
 -- ---- causes outside
@@ -329,6 +330,21 @@ pub record Takes (old : Talk) (call : HubCall) (new : Talk) : Type 0 where
   pub stands : (own : Option (List ℕ)) (w : Wanted) (bytes : List ℕ) (steps : List Step) (written : List ℕ) →
       Stands old own w bytes steps written → (w ≡ to_call (call_of call)) × Stands new own w bytes steps written
   pub work_is : KeepsWork old new
+
+-- it stands for the same, wants, holds and blames the same, and has as much left to do
+pub record IsRested (old new : Talk) : Type 0 where
+  pub fresh : is_fresh new ≡ is_fresh old
+  pub blames : blamed new ≡ blamed old
+  pub keeps : tokens new ≡ tokens old
+  pub awaits : awaited new ≡ awaited old
+  pub holds : held new ≡ held old
+  pub stands : (own : Option (List ℕ)) (w : Wanted) (bytes : List ℕ) (steps : List Step) (written : List ℕ) →
+      Stands old own w bytes steps written → Stands new own w bytes steps written
+  pub work_is : KeepsWork old new
+
+-- it holds no table of paths, and no memory for bytes that aren't there or are done with
+abbrev pub HasNoSpare : Talk → Type 0
+HasNoSpare talk = (talk.router ≡ None) × inbox.HasNoSpare talk.inbox
 
 -- the tokens after an answer: those that it brings and those that were held; none where the hub is spent
 abbrev pub KeepsTokens : Talk → Answer → Talk → Type 0

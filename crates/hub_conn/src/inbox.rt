@@ -3,7 +3,7 @@ ghost use Rattle.std.specs.Prelude.{◌≡◌, ◌≤◌, ◌<◌, ◌++◌, ℕ
 ghost use Rattle.http_frames.specs.Frames.{Request};
 ghost use Rattle.http_frames.specs.FrameSteps.{HasParts};
 ghost use Rattle.http_frames.specs.Feeding.{awaits_more};
-ghost use Rattle.hub_conn.specs.Inbox.{unread, keeps_bytes, most_read, Holds, HoldsSome, HoldsWhole, HoldsSomeWhole, IsFilled, IsSeen, LeavesRest};
+ghost use Rattle.hub_conn.specs.Inbox.{unread, keeps_bytes, most_read, Holds, HoldsSome, HoldsWhole, HoldsSomeWhole, HoldsSame, HasNoSpare, IsFilled, IsSeen, LeavesRest};
 ghost use Rattle.conn_script.specs.declared.wants.TheConstants.{PIECE};
 ghost use Rattle.hub_conn.specs.Conversation.{Waits};
 ghost use Rattle.conn_script.specs.Asking.{IsOf};
@@ -72,12 +72,26 @@ impl Inbox {
         self.reader.kept().saturating_add(self.piece.len() as u64)
     }
 
+    /// Gives back the memory of each buffer that has no byte that is still wanted. It holds what it held. Takes no memory.
+    pub fn rest(&mut self)
+        ensures same { HoldsSame self.old self.new }
+        ensures gives { HasNoSpare self.new }
+    {
+        self.reader.shrink();
+        if self.fed >= self.piece.len() {
+            self.piece.clear();
+            self.piece.shrink_to_fit();
+            self.fed = 0;
+        }
+    }
+
     /// Puts a piece behind the bytes, all of which were read. An empty one takes no memory.
     pub fn add(&mut self, piece: &[u8]) -> Result<(), NoMemory>
         requires read { unread self.old ≡ [] }
         requires fits { length piece.now ≤ PIECE }
         requires holds { HoldsSome self.old }
-        ensures holds { OnOk result ((bytes : List ℕ) → Holds self.old bytes → Holds self.new (bytes ++ piece.now)) }
+        ensures holds { OnOk result ((bytes : List ℕ) → Holds self.old bytes →
+            Holds self.new (bytes ++ piece.now)) }
         ensures some { OnErr result (0 < length piece.now) }
     {
         self.piece.drain(..self.fed);
@@ -94,7 +108,8 @@ impl Inbox {
     /// Reads on, to the end of the request at the front or of the bytes. Where all bytes were read it takes no memory.
     pub fn fill(&mut self) -> Result<(), NoMemory>
         requires { HoldsSome self.old }
-        ensures fills { OnOk result (IsFilled self.new × ((bytes : List ℕ) → Holds self.old bytes → Holds self.new bytes)) }
+        ensures fills { OnOk result (IsFilled self.new
+            × ((bytes : List ℕ) → Holds self.old bytes → Holds self.new bytes)) }
         ensures some { OnErr result (0 < length (unread self.old)) }
     {
         while self.reads_on() {
@@ -108,7 +123,8 @@ impl Inbox {
     /// Whether more bytes are awaited, and some are there.
     fn reads_on(&self) -> bool
         requires { HoldsSome self.now }
-        ensures yes { result ≡ true → (awaits_more self.now.reader ≡ true) × (self.now.fed < length self.now.piece.items) }
+        ensures yes { result ≡ true → (awaits_more self.now.reader ≡ true)
+            × (self.now.fed < length self.now.piece.items) }
         ensures no { result ≡ false → IsFilled self.now }
     {
         match self.reader.step() {
@@ -120,7 +136,8 @@ impl Inbox {
     /// What stands at the front, once it was read on.
     pub fn see(&self) -> Seen
         requires { HoldsSome self.now }
-        ensures { IsFilled self.now → (bytes : List ℕ) → Holds self.now bytes → IsSeen self.now bytes result }
+        ensures { IsFilled self.now → (bytes : List ℕ) → Holds self.now bytes →
+            IsSeen self.now bytes result }
     {
         stays();
         one_head();
@@ -158,7 +175,8 @@ impl Inbox {
     /// Lets the whole request at the front go, and gives how many bytes stand behind it.
     pub fn next(&mut self) -> usize
         requires { HoldsSomeWhole self.old }
-        ensures { (bytes : List ℕ) (f : Request) → HoldsWhole self.old bytes f → LeavesRest bytes f result self.new }
+        ensures { (bytes : List ℕ) (f : Request) → HoldsWhole self.old bytes f →
+            LeavesRest bytes f result self.new }
     {
         stays();
         self.reader.next();

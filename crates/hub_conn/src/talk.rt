@@ -4,6 +4,7 @@ ghost use Rattle.conn_script.specs.declared.wants.TheConstants.{PIECE};
 ghost use Rattle.conn_script.specs.Responses.{continue_text};
 
 mod reading;
+mod resting;
 mod running;
 mod writing;
 

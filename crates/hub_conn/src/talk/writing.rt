@@ -49,7 +49,8 @@ impl Talk {
         ensures goes { SendsBy self.old out count self.new }
         ensures settles { Settles self.new of_nothing [] }
         ensures less { SendsSome self.old out count self.new }
-        ensures stays { out.sent + count < length out.bytes → writes_bytes self.new ≡ length out.bytes }
+        ensures stays { out.sent + count < length out.bytes →
+            writes_bytes self.new ≡ length out.bytes }
     {
         let sent = out.sent + count;
         if sent < out.bytes.as_bytes().len() {
