@@ -29,6 +29,8 @@ impl<R: Eprint + Drop, D: Door + Drop> Door for ToldBind<R, D> {
 
     type C = D::C;
 
+    type G = D::G;
+
     ghost view = { λ d. D.view d.door };
 
     fn bind(&mut self, port: u16) -> Result<(), Failed> {
@@ -46,6 +48,10 @@ impl<R: Eprint + Drop, D: Door + Drop> Door for ToldBind<R, D> {
 
     fn accept(&mut self) -> Result<Option<D::L>, Failed> {
         self.door.accept()
+    }
+
+    fn gate(&mut self) -> Result<D::G, Failed> {
+        self.door.gate()
     }
 
     fn nodes(&mut self) -> D::N {

@@ -31,6 +31,8 @@ impl<R: Eprint + Copy + Send + Drop, D: Door + Drop> Door for ToldHub<R, D> {
 
     type C = D::C;
 
+    type G = D::G;
+
     ghost view = { λ d. D.view d.door };
 
     fn bind(&mut self, port: u16) -> Result<(), Failed> {
@@ -39,6 +41,10 @@ impl<R: Eprint + Copy + Send + Drop, D: Door + Drop> Door for ToldHub<R, D> {
 
     fn accept(&mut self) -> Result<Option<D::L>, Failed> {
         self.door.accept()
+    }
+
+    fn gate(&mut self) -> Result<D::G, Failed> {
+        self.door.gate()
     }
 
     /// Until the hub's first answer it is taken for one that serves, so that only trouble is told.

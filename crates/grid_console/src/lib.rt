@@ -1,6 +1,7 @@
 //! What the programs take from their command line, and what they say on standard error.
 #![tactic(auto)]
 
+mod answers;
 mod arguments;
 mod asked;
 mod binding;

@@ -1,6 +1,7 @@
 //! What a node's exchanges come to, said on standard error when it changes.
 ghost use Rattle.std.specs.Prelude.{◌≡◌, ℕ, ◌≤◌};
 
+use crate::answers::answer_of;
 use grid_outside::{ExchangeFault, NodeLink, NodeRequest, Reply};
 use grid_types::NodeAddress;
 use node_signs::Contact;
@@ -14,6 +15,7 @@ pub struct ToldNodes<R: Eprint + Drop, N: NodeLink + Drop> {
     nodes: N,
     driver: Option<Contact>,
     hub: Option<Contact>,
+    answer: Option<String>,
 }
 
 impl<R: Eprint + Drop, N: NodeLink + Drop> ToldNodes<R, N> {
@@ -28,6 +30,7 @@ impl<R: Eprint + Drop, N: NodeLink + Drop> ToldNodes<R, N> {
             nodes,
             driver: None,
             hub,
+            answer: None,
         }
     }
 
@@ -42,6 +45,22 @@ impl<R: Eprint + Drop, N: NodeLink + Drop> ToldNodes<R, N> {
         }
     }
 
+    /// Tells of the hub with what it said beside the status, where it said something.
+    fn tell_answer(&mut self, contact: Contact, answer: String)
+        ensures { self.new.nodes ≡ self.old.nodes }
+    {
+        let is_known = match &self.answer {
+            Some(known) => known.as_str() == answer.as_str(),
+            None => false,
+        };
+        if self.hub != Some(contact) || !is_known {
+            let program = self.program;
+            let _ = eprintln!(self.runtime; "{program}: the hub {contact}: {answer}");
+        }
+        self.hub = Some(contact);
+        self.answer = Some(answer);
+    }
+
     fn tell_hub(&mut self, contact: Contact)
         ensures { self.new.nodes ≡ self.old.nodes }
     {
@@ -53,13 +72,15 @@ impl<R: Eprint + Drop, N: NodeLink + Drop> ToldNodes<R, N> {
     }
 
     /// A driver is looked at by GET, and a hub is told by POST and DELETE.
-    fn tell(&mut self, is_look: bool, contact: Contact)
+    fn tell(&mut self, is_look: bool, contact: Contact, answer: Option<String>)
         ensures { self.new.nodes ≡ self.old.nodes }
     {
         if is_look {
-            self.tell_driver(contact);
-        } else {
-            self.tell_hub(contact);
+            return self.tell_driver(contact);
+        }
+        match answer {
+            Some(answer) => self.tell_answer(contact, answer),
+            None => self.tell_hub(contact),
         }
     }
 }
@@ -77,7 +98,8 @@ impl<R: Eprint + Drop, N: NodeLink + Drop> NodeLink for ToldNodes<R, N> {
     ) -> Result<Reply, ExchangeFault> {
         let came = self.nodes.exchange(alloc, address, request);
         if let Some(contact) = Contact::of(&came) {
-            self.tell(request.method == b"GET".as_slice(), contact);
+            let answer = answer_of(alloc, &came);
+            self.tell(request.method == b"GET".as_slice(), contact, answer);
         }
         came
     }

@@ -23,6 +23,8 @@ pub(crate) struct Shared<'a> {
     pub(crate) hub: NodeAddress,
     /// The body of a registration.
     pub(crate) body: &'a [u8],
+    /// The body of a beat.
+    pub(crate) beats: &'a [u8],
     /// The number that the hub answered last.
     pub(crate) number: &'a AtomicU32,
     /// The door was closed.
@@ -72,7 +74,7 @@ fn register_again<R: Wait, N: NodeLink, C: Clock>(
 /// Tells the hub that the node is there, and answers whether the hub no longer knows it.
 fn is_forgotten<N: NodeLink>(alloc: Global, nodes: &mut N, shared: &Shared<'_>) -> bool {
     let number = shared.number.load(Ordering::SeqCst);
-    let beat = send_beat(alloc, nodes, &shared.hub, number);
+    let beat = send_beat(alloc, nodes, &shared.hub, number, shared.beats);
     matches!(beat, Ok(Beat::Refused))
 }
 

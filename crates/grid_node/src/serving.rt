@@ -4,7 +4,7 @@ ghost use Rattle.grid_outside.specs.Counts.{Rose};
 ghost use Rattle.grid_node.specs.Statuses.{HasServed};
 
 use crate::beating::{Shared, beat_between};
-use grid_outside::{Clock, Door, Link};
+use grid_outside::{AwaitedLink, Clock, Door, Gate, Link};
 use loop_node::{LoopNode, serve_node};
 use std::alloc::Global;
 use std::sync::Wait;
@@ -13,7 +13,7 @@ use std::sync::atomic::Ordering;
 /// The door was closed.
 pub(crate) const CLOSED: u8 = 0;
 
-/// The door failed.
+/// The door failed, or had no gate.
 pub(crate) const DOOR_FAILED: u8 = 3;
 
 /// Serves one link, under the number that the hub answered last.
@@ -26,6 +26,24 @@ fn serve_link<L: Link>(alloc: Global, shared: &Shared<'_>, node: &mut LoopNode, 
     let _ = serve_node(alloc, node, link);
 }
 
+/// Serves the link of one connection, waited for by the gate, which is handed back. Where there is no room for the
+/// link, its connection is closed.
+fn serve_one<G: Gate + Drop>(
+    alloc: Global,
+    shared: &Shared<'_>,
+    node: &mut LoopNode,
+    gate: G,
+    link: G::L,
+) -> G {
+    match AwaitedLink::new(alloc, gate, link) {
+        Ok(mut link) => {
+            serve_link(alloc, shared, node, &mut link);
+            link.into_gate()
+        }
+        Err(gate) => gate,
+    }
+}
+
 fn accept_links<R: Wait, D: Door>(
     rt: &R,
     alloc: Global,
@@ -35,13 +53,16 @@ fn accept_links<R: Wait, D: Door>(
 ) -> u8
     ensures { HasServed (D.view door.old) (D.view door.new) result }
 {
+    let Ok(mut gate) = door.gate() else {
+        return DOOR_FAILED;
+    };
     let mut nodes = door.nodes();
     let mut clock = door.clock();
     let mut last = clock.now().0;
     for _ in rt.forever() {
         last = beat_between(alloc, shared, &mut nodes, &mut clock, last);
         match door.accept() {
-            Ok(Some(mut link)) => serve_link(alloc, shared, node, &mut link),
+            Ok(Some(link)) => gate = serve_one(alloc, shared, node, gate, link),
             Ok(None) => return CLOSED,
             Err(_) => return DOOR_FAILED,
         }

@@ -13,7 +13,7 @@ use crate::serving::{DOOR_FAILED, serve_links};
 use grid_outside::{Clock, Door, NodeLink};
 use grid_types::{Bytes, NoMemory, NodeAddress, Text};
 use loop_node::LoopNode;
-use node_signs::registration_body;
+use node_signs::{beat_body, registration_body};
 use server_words::{NodeWords, WordsFault, node_words};
 use std::alloc::Global;
 use std::sync::Wait;
@@ -94,6 +94,7 @@ fn serve_registered<R: Threads + Wait + Sync, D: Door>(
     alloc: Global,
     hub: NodeAddress,
     body: &[u8],
+    beats: &[u8],
     mut node: LoopNode,
     door: &mut D,
 ) -> u8
@@ -109,6 +110,7 @@ fn serve_registered<R: Threads + Wait + Sync, D: Door>(
     let shared = Shared {
         hub,
         body,
+        beats,
         number: &latest,
         closed: &closed,
         beating: &beating,
@@ -129,11 +131,17 @@ fn run<R: Threads + Wait + Sync, D: Door>(
     let Ok(body) = body_of(alloc, words, slots) else {
         return NO_MEMORY;
     };
+    let Ok(beats) = beat_body(alloc, words.name.as_str()) else {
+        return NO_MEMORY;
+    };
     let Ok(node) = node_of(alloc, words, slots) else {
         return NO_MEMORY;
     };
     match door.bind(words.port) {
-        Ok(()) => serve_registered(rt, alloc, words.hub, body.as_bytes(), node, door),
+        Ok(()) => {
+            let (body, beats) = (body.as_bytes(), beats.as_bytes());
+            serve_registered(rt, alloc, words.hub, body, beats, node, door)
+        }
         Err(_) => DOOR_FAILED,
     }
 }
@@ -142,7 +150,7 @@ fn run<R: Threads + Wait + Sync, D: Door>(
 /// the door, registers at the hub and serves the links that come in one after the other, until the
 /// door is closed. It need not return.
 ///
-/// 0: the door was closed. 2: the words don't fit. 3: the door could not be bound, or failed. 5: out
+/// 0: the door was closed. 2: the words don't fit. 3: the door could not be bound, failed, or had no room for a gate. 5: out
 /// of memory.
 pub fn node_main<R: Threads + Wait + Sync, D: Door>(
     rt: &R,
@@ -154,7 +162,8 @@ pub fn node_main<R: Threads + Wait + Sync, D: Door>(
     ensures misfit { result ≡ 2 → ¬ (FitsNode words.now) }
     ensures refuses { ¬ (FitsNode words.now) → (result ≡ 2) ⊎ (result ≡ 5) }
     ensures failed { result ≡ 3 → Rose (D.view door.old).faults (D.view door.new).faults }
-    ensures later { ((D.view door.old).ends ≤ (D.view door.new).ends) × ((D.view door.old).faults ≤ (D.view door.new).faults) }
+    ensures later { ((D.view door.old).ends ≤ (D.view door.new).ends)
+        × ((D.view door.old).faults ≤ (D.view door.new).faults) }
     // It listens where the words say, and is bound nowhere else.
     ensures listens { result ≡ 0 → (D.view door.new).bound ≡ Some (node_said words.now).port }
     ensures bound { ((D.view door.new).bound ≡ (D.view door.old).bound)

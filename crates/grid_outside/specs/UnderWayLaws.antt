@@ -1,5 +1,5 @@
 -- That one exchange is under way or none.
-use Rattle.std.proofs.Common.{◌≡◌, ℕ, List}
+use Rattle.std.proofs.Common.{ℕ, List}
 use Rattle.std.specs.Prelude.{Option, None, Some}
 use Rattle.grid_outside.specs.declared.exchange.Ask.{Ask}
 use Rattle.grid_outside.specs.Exchanges.{Came}

@@ -4,20 +4,23 @@ ghost use Rattle.grid_outside.specs.Counts.{Rose, HasCause};
 ghost use Rattle.grid_outside.specs.Told.{DoorView};
 
 use crate::clock::Clock;
-use crate::link::Link;
+use crate::gate::Gate;
+use crate::line::Line;
 use crate::node_link::NodeLink;
 use crate::source::Failed;
 
-/// What hands out the links that come in, and what reaches the nodes and tells the time. All three
-/// may go to other threads.
+/// What hands out the links that come in, what many of them are waited for by, and what reaches the nodes and tells the time.
+/// All four may go to other threads.
 pub trait Door {
-    type L: Link + Send + Drop;
+    type L: Line + Send + Drop;
 
     type N: NodeLink + Send + Drop;
 
     type C: Clock + Send + Drop;
 
-    /// How often it failed to be bound or to accept, how often it was found closed, and the port that it was bound at last.
+    type G: Gate<L = Self::L, C = Self::C> + Send + Drop;
+
+    /// How often it failed to be bound, to accept or to give a gate, how often it was found closed, and the port that it was bound at last.
     /// A count stays at 2^64 - 1 once it is there.
     ghost view: { Self → DoorView };
 
@@ -28,10 +31,17 @@ pub trait Door {
         ensures bound { OnOk result ((view self.new).bound ≡ Some port) }
         ensures unbound { OnErr result ((view self.new).bound ≡ (view self.old).bound) };
 
-    /// The next link that comes in. None says that the door was closed.
+    /// The next link that comes in, which is waited for. None says that the door was closed.
     fn accept(&mut self) -> Result<Option<Self::L>, Failed>
         ensures cause { HasCause (view self.old).faults (view self.new).faults result }
-        ensures closed { IfOk result (λ link. link ≡ None → Rose (view self.old).ends (view self.new).ends) }
+        ensures closed { IfOk result (λ link. link ≡ None →
+            Rose (view self.old).ends (view self.new).ends) }
+        ensures ends { (view self.old).ends ≤ (view self.new).ends }
+        ensures bound { (view self.new).bound ≡ (view self.old).bound };
+
+    /// One more of what links are waited for by. Err: the system has no room for it.
+    fn gate(&mut self) -> Result<Self::G, Failed>
+        ensures cause { HasCause (view self.old).faults (view self.new).faults result }
         ensures ends { (view self.old).ends ≤ (view self.new).ends }
         ensures bound { (view self.new).bound ≡ (view self.old).bound };
 

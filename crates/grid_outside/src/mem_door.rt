@@ -4,7 +4,8 @@ ghost use Rattle.grid_types.specs.declared.limits.TheConstants.{LAST_MOMENT};
 ghost use Rattle.grid_outside.specs.Counts.{Rose, HasCause};
 
 use crate::door::Door;
-use crate::mem_link::MemLink;
+use crate::mem_gate::MemGate;
+use crate::mem_line::MemLine;
 use crate::mem_nodes::MemNodes;
 use crate::memory::{Failing, MemClock};
 use crate::source::Failed;
@@ -16,7 +17,7 @@ use std::alloc::Global;
 #[derive(Drop)]
 pub struct MemDoor {
     alloc: Global,
-    links: Vec<MemLink>,
+    links: Vec<MemLine>,
     at: Moment,
     failing: Failing,
     ends: u64,
@@ -27,8 +28,7 @@ impl MemDoor {
     ghost use Rattle.grid_outside.specs.MemDoors.{to_hand_out};
     ghost use Rattle.grid_outside.specs.Planned.{Begins};
 
-    /// A door without links. `fails` has the numbers of the binds and accepts, from 0, that are to
-    /// fail.
+    /// A door without links. `fails` has the numbers of the binds, accepts and gates, from 0, that are to fail.
     pub fn new(alloc: Global, at: Moment, fails: Vec<u64>) -> MemDoor
         ensures links { to_hand_out result ≡ [] }
         ensures at { result.at ≡ at }
@@ -54,7 +54,7 @@ impl MemDoor {
     }
 
     /// Puts a link last of those to hand out. Err: out of memory, which hands it back.
-    pub fn push(&mut self, link: MemLink) -> Result<(), MemLink>
+    pub fn push(&mut self, link: MemLine) -> Result<(), MemLine>
         ensures ok { OnOk result (to_hand_out self.new ≡ to_hand_out self.old ++ link ∷ []) }
         ensures err { OnErr result (to_hand_out self.new ≡ to_hand_out self.old) }
         ensures back { IfErr result (λ l. l ≡ link) }
@@ -69,16 +69,19 @@ impl MemDoor {
 
 impl Door for MemDoor {
     ghost use Rattle.grid_outside.specs.MemDoors.{door_view, to_hand_out, HandsOut};
+    ghost use Rattle.grid_outside.specs.MemGates.{IsFresh};
     ghost use Rattle.grid_outside.specs.MemNodes.{to_give, exchanges_made};
     ghost use Rattle.grid_outside.specs.Memory.{clock_at, clock_pauses};
     ghost use Rattle.grid_outside.specs.Counts.{more_if};
     ghost use Rattle.grid_outside.specs.Planned.{Begins, CountsCall, is_due};
 
-    type L = MemLink;
+    type L = MemLine;
 
     type N = MemNodes;
 
     type C = MemClock;
+
+    type G = MemGate;
 
     ghost view = { door_view };
 
@@ -89,7 +92,8 @@ impl Door for MemDoor {
         // It fails exactly where that is planned.
         ensures fails { is_err result ≡ is_due self.old.failing }
         ensures counts { CountsCall self.old.failing self.new.failing result }
-        ensures rest { self.new ≡ record self.old { failing = self.new.failing; bound = self.new.bound } }
+        ensures rest { self.new ≡ record self.old
+            { failing = self.new.failing; bound = self.new.bound } }
         ensures bound { OnOk result (self.new.bound ≡ Some port) }
         ensures unbound { OnErr result (self.new.bound ≡ self.old.bound) }
     {
@@ -101,7 +105,7 @@ impl Door for MemDoor {
         Ok(())
     }
 
-    fn accept(&mut self) -> Result<Option<MemLink>, Failed>
+    fn accept(&mut self) -> Result<Option<MemLine>, Failed>
         ensures cause { HasCause self.old.failing.faults self.new.failing.faults result }
         ensures closed { IfOk result (λ link. link ≡ None → Rose self.old.ends self.new.ends) }
         ensures ends { self.old.ends ≤ self.new.ends }
@@ -123,6 +127,22 @@ impl Door for MemDoor {
             return Ok(None);
         }
         Ok(Some(self.links.remove(0)))
+    }
+
+    fn gate(&mut self) -> Result<MemGate, Failed>
+        ensures cause { HasCause self.old.failing.faults self.new.failing.faults result }
+        ensures ends { self.old.ends ≤ self.new.ends }
+        ensures bound { self.new.bound ≡ self.old.bound }
+        ensures fails { is_err result ≡ is_due self.old.failing }
+        ensures counts { CountsCall self.old.failing self.new.failing result }
+        ensures rest { self.new ≡ record self.old { failing = self.new.failing } }
+        ensures fresh { IfOk result (IsFresh []) }
+    {
+        if self.failing.next_fails() {
+            self.failing.count_fault();
+            return Err(Failed);
+        }
+        Ok(MemGate::new(self.alloc, Vec::new(self.alloc)))
     }
 
     fn nodes(&mut self) -> MemNodes

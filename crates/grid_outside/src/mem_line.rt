@@ -44,7 +44,8 @@ impl Line for MemLine {
     ghost view = { line_view };
 
     fn read(&mut self, into: &mut [u8]) -> Reading
-        ensures tells { ReadsSo result (length into.old) into.new (line_view self.old) (line_view self.new) }
+        ensures tells { ReadsSo result (length into.old) into.new (line_view self.old)
+            (line_view self.new) }
         ensures planned { LineReads self.old self.new into.old into.new result }
     {
         if self.reads_wait.next_waits() {

@@ -79,7 +79,8 @@ impl<N: NodeLink + Drop> NodeLine for MemNodeLine<N> {
             CameSo N.gives N.faults (told_state self.old.before.value self.old.came self.old.nodes) address ask came
             (told_state self.new.before.value self.new.came self.new.nodes)) }
         ensures within { IfSome result (λ came. IfOk came (λ reply. IsTrue (is_within reply))) }
-        ensures idle { IfSome result (λ came. IsUnderWay N.gives N.faults self.new.before.value self.new.came self.new.nodes None) }
+        ensures idle { IfSome result (λ came.
+            IsUnderWay N.gives N.faults self.new.before.value self.new.came self.new.nodes None) }
         ensures asked { IfSome result (λ came.
             IsUnderWay N.gives N.faults self.old.before.value self.old.came self.old.nodes None → ⊥) }
         ensures asks { IfNone result ((under : Option (List ℕ × Ask)) →

@@ -40,7 +40,8 @@ pub trait NodeLine {
         ensures within { IfSome result (λ came. IfOk came (λ reply. IsTrue (is_within reply))) }
         ensures idle { IfSome result (λ came. asks self.new None) }
         ensures asked { IfSome result (λ came. asks self.old None → ⊥) }
-        ensures asks { IfNone result ((under : Option (List ℕ × Ask)) → asks self.old under → asks self.new under) }
+        ensures asks { IfNone result ((under : Option (List ℕ × Ask)) → asks self.old under →
+            asks self.new under) }
         ensures same { IfNone result (state self.new ≡ state self.old) };
 
     /// Where one is under way, it is not so that none is.

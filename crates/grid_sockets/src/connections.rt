@@ -37,7 +37,7 @@ impl<R: Net + Drop> TcpNodes<R> {
 
 /// Why there is no reply.
 #[derive(Clone, Copy)]
-enum Stop {
+pub(crate) enum Stop {
     Failed,
     Memory,
 }
@@ -57,6 +57,20 @@ impl From<AllocError> for Stop {
 impl From<io::Error> for Stop {
     fn from(_: io::Error) -> Self {
         Stop::Failed
+    }
+}
+
+/// What an exchange tells of it. A node that was not reached is counted.
+pub(crate) fn fault_of(stop: Stop, faults: &mut u64) -> ExchangeFault
+    ensures later { faults.old ≤ faults.new }
+    ensures unreachable { result ≡ ExchangeFault.Unreachable → Rose faults.old faults.new }
+{
+    match stop {
+        Stop::Memory => ExchangeFault::Memory,
+        Stop::Failed => {
+            *faults = faults.saturating_add(1);
+            ExchangeFault::Unreachable
+        }
     }
 }
 
@@ -90,7 +104,7 @@ fn send<S: Write>(stream: &mut S, bytes: &[u8]) -> Result<(), Stop> {
     Ok(())
 }
 
-fn not_http(alloc: Global, bytes: &[u8]) -> Result<Reply, NoMemory>
+pub(crate) fn not_http(alloc: Global, bytes: &[u8]) -> Result<Reply, NoMemory>
     ensures { IfOk result (λ reply. IsTrue (is_within reply)) }
 {
     let kept = bytes.len().min(KEPT_BYTES);
@@ -142,11 +156,7 @@ impl<R: Net + Drop> NodeLink for TcpNodes<R> {
     ) -> Result<Reply, ExchangeFault> {
         match ask(&self.runtime, alloc, address, request) {
             Ok(reply) => Ok(reply),
-            Err(Stop::Memory) => Err(ExchangeFault::Memory),
-            Err(Stop::Failed) => {
-                self.faults = self.faults.saturating_add(1);
-                Err(ExchangeFault::Unreachable)
-            }
+            Err(stop) => Err(fault_of(stop, &mut self.faults)),
         }
     }
 }

@@ -4,45 +4,70 @@ ghost use Rattle.grid_outside.specs.Counts.{Rose, HasCause};
 ghost use Rattle.grid_sockets.specs.Limits.{IsCounted};
 
 use crate::connections::TcpNodes;
-use crate::links::{TcpLink, client_link};
+use crate::gate::TcpGate;
+use crate::lines::TcpLine;
 use crate::machine::MachineClock;
 use grid_outside::{Door, Failed};
+use mio::Waker;
+use std::alloc::{AllocGlobal, Global};
 use std::io::ErrorKind;
-use std::net::{Ipv4Addr, Net, OpenListener, TcpListener, TcpStream};
+use std::net::{IpAddr, Ipv4Addr, Net, OpenListener, OpenStream, TcpListener, TcpStream};
+use std::sync::Arc;
 use std::time::Duration;
 use std::{io, time};
 
 /// How long the door waits, in milliseconds, where the system can't take a connection for a while.
 const PAUSE_MS: u64 = 15;
 
+/// How long one call of a client's line waits until a gate takes the line in, in seconds.
+const SECONDS_FOR_CLIENTS: u64 = 30;
+
 /// Linux's number of the error that a descriptor is not open, or is none of the listener's kind.
 const BAD_DESCRIPTOR: i32 = 9;
 
 const NOT_A_SOCKET: i32 = 88;
 
-/// A listener at all addresses of the machine that closes after so many accepted links, or never.
+/// A listener at an address of the machine, or at all, that closes after so many accepted links, or never.
 #[derive(Drop)]
 pub struct TcpDoor<R: Net<Listener = TcpListener, Stream = TcpStream> + Drop> {
     runtime: R,
+    host: IpAddr,
     left: Option<u64>,
     listener: Option<TcpListener>,
+    /// What ends the waits of the gates that it has made.
+    bells: Vec<Arc<Waker>>,
     bound: Option<u16>,
     faults: u64,
     ends: u64,
 }
 
-impl<R: Net<Listener = TcpListener, Stream = TcpStream> + Drop> TcpDoor<R> {
-    /// A door that is not bound yet. With a limit it closes after so many accepted links.
+impl<R: Net<Listener = TcpListener, Stream = TcpStream> + AllocGlobal + Drop> TcpDoor<R> {
+    /// A door at all IPv4 addresses of the machine that is not bound yet. With a limit it closes after so many accepted
+    /// links.
     pub fn new(runtime: R, limit: Option<u64>) -> Self
         ensures limit { result.left ≡ limit }
         ensures unbound { (result.listener ≡ None) × (result.bound ≡ None) }
         ensures faults { result.faults ≡ 0 }
         ensures ends { result.ends ≡ 0 }
     {
+        TcpDoor::at(runtime, IpAddr::V4(Ipv4Addr::UNSPECIFIED), limit)
+    }
+
+    /// The same at this address.
+    pub fn at(runtime: R, host: IpAddr, limit: Option<u64>) -> Self
+        ensures host { result.host ≡ host }
+        ensures limit { result.left ≡ limit }
+        ensures unbound { (result.listener ≡ None) × (result.bound ≡ None) }
+        ensures faults { result.faults ≡ 0 }
+        ensures ends { result.ends ≡ 0 }
+    {
+        let bells = Vec::new(runtime.alloc());
         TcpDoor {
             runtime,
+            host,
             left: limit,
             listener: None,
+            bells,
             bound: None,
             faults: 0,
             ends: 0,
@@ -92,13 +117,40 @@ fn next_stream<R: time::Clock>(runtime: &R, listener: &TcpListener) -> Option<Tc
     None
 }
 
-impl<R: Net<Listener = TcpListener, Stream = TcpStream> + time::Clock + Copy + Send + Drop> Door
-    for TcpDoor<R> {
-    type L = TcpLink<TcpStream>;
+/// The line of a client that was accepted: its calls wait, and what is written goes out at once.
+fn client_line<R: time::Clock + Drop>(runtime: R, stream: TcpStream) -> TcpLine<R> {
+    let limit = Duration::from_secs(SECONDS_FOR_CLIENTS);
+    let _ = stream.set_nodelay(true);
+    let _ = stream.set_read_timeout(Some(limit));
+    let _ = stream.set_write_timeout(Some(limit));
+    TcpLine::waiting(runtime, stream)
+}
+
+/// A gate and what ends its waits.
+fn gate_and_bell<R: Net + time::Clock + Copy + Drop>(
+    runtime: R,
+    alloc: Global,
+) -> io::Result<(TcpGate<R>, Arc<Waker>)> {
+    let gate = TcpGate::new(runtime, alloc)?;
+    let bell = gate.bell()?;
+    Ok((gate, bell))
+}
+
+impl<
+    R: Net<Listener = TcpListener, Stream = TcpStream>
+        + time::Clock
+        + AllocGlobal
+        + Copy
+        + Send
+        + Drop,
+> Door for TcpDoor<R> {
+    type L = TcpLine<R>;
 
     type N = TcpNodes<R>;
 
     type C = MachineClock<R>;
+
+    type G = TcpGate<R>;
 
     ghost view = { λ d. record { faults = d.faults; ends = d.ends; bound = d.bound } };
 
@@ -110,8 +162,9 @@ impl<R: Net<Listener = TcpListener, Stream = TcpStream> + time::Clock + Copy + S
         ensures listens { OnOk result (IsSome self.new.listener) }
         ensures err { OnErr result (self.new.listener ≡ self.old.listener) }
         ensures limit { self.new.left ≡ self.old.left }
+        ensures host { self.new.host ≡ self.old.host }
     {
-        match TcpListener::bind(&self.runtime, (Ipv4Addr::UNSPECIFIED, port)) {
+        match TcpListener::bind(&self.runtime, (self.host, port)) {
             Ok(listener) => {
                 self.listener = Some(listener);
                 self.bound = Some(port);
@@ -124,7 +177,8 @@ impl<R: Net<Listener = TcpListener, Stream = TcpStream> + time::Clock + Copy + S
         }
     }
 
-    fn accept(&mut self) -> Result<Option<TcpLink<TcpStream>>, Failed>
+    /// The link's calls wait until a gate takes it in, each for at most 30 s, so a thread may serve it alone.
+    fn accept(&mut self) -> Result<Option<TcpLine<R>>, Failed>
         ensures cause { HasCause self.old.faults self.new.faults result }
         ensures closed { IfOk result (λ link. link ≡ None → Rose self.old.ends self.new.ends) }
         ensures ends { self.old.ends ≤ self.new.ends }
@@ -134,6 +188,10 @@ impl<R: Net<Listener = TcpListener, Stream = TcpStream> + time::Clock + Copy + S
         ensures bound { self.new.bound ≡ self.old.bound }
         ensures listens { self.new.listener ≡ self.old.listener }
     {
+        // Who waits at a gate may have been handed the link before.
+        for bell in &self.bells {
+            let _ = bell.wake();
+        }
         if self.left == Some(0) {
             self.ends = self.ends.saturating_add(1);
             return Ok(None);
@@ -145,13 +203,29 @@ impl<R: Net<Listener = TcpListener, Stream = TcpStream> + time::Clock + Copy + S
         match taken {
             Some(stream) => {
                 self.left = self.left.map(|left| left.saturating_sub(1));
-                Ok(Some(client_link(stream)))
+                Ok(Some(client_line(self.runtime, stream)))
             }
             None => {
                 self.faults = self.faults.saturating_add(1);
                 Err(Failed)
             }
         }
+    }
+
+    fn gate(&mut self) -> Result<TcpGate<R>, Failed>
+        ensures cause { HasCause self.old.faults self.new.faults result }
+        ensures ends { self.old.ends ≤ self.new.ends }
+        ensures bound { self.new.bound ≡ self.old.bound }
+        ensures limit { self.new.left ≡ self.old.left }
+        ensures listens { self.new.listener ≡ self.old.listener }
+    {
+        if let Ok((gate, bell)) = gate_and_bell(self.runtime, self.runtime.alloc()) {
+            if self.bells.push(bell).is_ok() {
+                return Ok(gate);
+            }
+        }
+        self.faults = self.faults.saturating_add(1);
+        Err(Failed)
     }
 
     fn nodes(&mut self) -> TcpNodes<R>

@@ -16,6 +16,18 @@ pub struct MachineClock<R: time::Clock + Drop> {
     ghost bound: { last < 2 ^ 62 },
 }
 
+/// What the machine's clock shows, in milliseconds, or 0 where it can't be read.
+pub(crate) fn shown<R: time::Clock>(runtime: &R) -> u64
+    ensures { result < 2 ^ 62 }
+{
+    match runtime.monotonic() {
+        Ok(since) => u64::try_from(since.as_millis())
+            .unwrap_or(LAST_MOMENT)
+            .min(LAST_MOMENT),
+        Err(_) => 0,
+    }
+}
+
 impl<R: time::Clock + Drop> MachineClock<R> {
     /// A clock that asks this runtime, and has shown nothing yet.
     pub fn new(runtime: R) -> Self
@@ -28,12 +40,7 @@ impl<R: time::Clock + Drop> MachineClock<R> {
     fn shown(&self) -> u64
         ensures { result < 2 ^ 62 }
     {
-        match self.runtime.monotonic() {
-            Ok(since) => u64::try_from(since.as_millis())
-                .unwrap_or(LAST_MOMENT)
-                .min(LAST_MOMENT),
-            Err(_) => 0,
-        }
+        shown(&self.runtime)
     }
 }
 
