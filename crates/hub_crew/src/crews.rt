@@ -60,7 +60,8 @@ fn all_work<R: Threads + Wait + Sync, N: NodeLink + Send + Drop, C: Clock + Send
         count,
         &|_, hand: &mut Hand<N, C>|
             requires { IsReady hub.now hand.now }
-            ensures { HandDid hub.entry.now N.gives C.gives C.view turns hand.entry.now hand.exit.now }
+            ensures { HandDid hub.entry.now N.gives C.gives C.view turns hand.entry.now
+                hand.exit.now }
         { one_works(rt, alloc, hub, turns, hand) },
     );
 }
@@ -74,7 +75,8 @@ fn all_listed_work<R: Threads + Wait + Sync, N: NodeLink + Send + Drop, C: Clock
     hands: &mut Vec<Hand<N, C>>,
 )
     requires ready { All (IsReady hub.now) hands.old.items }
-    ensures did { AllZip (HandDid hub.now N.gives C.gives C.view turns) hands.old.items hands.new.items }
+    ensures did { AllZip (HandDid hub.now N.gives C.gives C.view turns) hands.old.items
+        hands.new.items }
     ensures count { vec_len hands.new ≡ vec_len hands.old }
 {
     all_work(rt, alloc, hub, turns, hands.as_mut_slice());
@@ -95,7 +97,8 @@ pub fn crew<R: Threads + Wait + Sync, N: NodeLink + Send + Drop, C: Clock + Send
     ensures own { IsOf hub.now pass.new }
     ensures spares { spares_of pass.old ≤ spares_of pass.new }
     ensures count { vec_len tools.new ≡ vec_len tools.old }
-    ensures did { CrewDid hub.now N.gives C.gives C.view turns (knows pass.old) tools.old.items result (knows pass.new) tools.new.items }
+    ensures did { CrewDid hub.now N.gives C.gives C.view turns (knows pass.old) tools.old.items
+        result (knows pass.new) tools.new.items }
 {
     // It has at most so many spare readers as fit into its count of them.
     pass.spares();

@@ -46,9 +46,11 @@ pub(crate) fn hire<R: Wait, N: Drop, C: Drop>(
     requires room { (hands.old.items ≡ []) × (vec_len tools.old ≤ vec_capacity hands.old) }
     requires spares { vec_len tools.old ≤ spares_of pass.old }
     ensures own { IsOf hub.now pass.new }
-    ensures hired { IsHired hub.now (knows pass.old) tools.old.items result (knows pass.new) tools.new.items hands.new.items }
+    ensures hired { IsHired hub.now (knows pass.old) tools.old.items result (knows pass.new)
+        tools.new.items hands.new.items }
     ensures spares { spares_of pass.old ≤ spares_of pass.new + vec_len hands.new }
-    ensures room { (vec_len tools.new + vec_len hands.new ≡ vec_len tools.old) × (vec_capacity tools.new ≡ vec_capacity tools.old) }
+    ensures room { (vec_len tools.new + vec_len hands.new ≡ vec_len tools.old)
+        × (vec_capacity tools.new ≡ vec_capacity tools.old) }
     ensures all { OnOk result (tools.new.items ≡ []) }
 {
     for _ in 0..tools.len() {
@@ -66,7 +68,8 @@ pub(crate) fn hire<R: Wait, N: Drop, C: Drop>(
 
 /// Why the crew stops, with one more worker that ended so.
 fn also(spent: Option<Spent>, end: WorkerEnd) -> Option<Spent>
-    ensures { (start count : ℕ) → MayRise start spent count → MayRise start result (count + spent_after 0 end) }
+    ensures { (start count : ℕ) → MayRise start spent count →
+        MayRise start result (count + spent_after 0 end) }
 {
     match end {
         WorkerEnd::TurnsDone => spent,
@@ -87,8 +90,10 @@ pub(crate) fn take_back<N: Drop, C: Drop>(
     requires room { vec_len tools.old + vec_len hands ≤ vec_capacity tools.old }
     ensures own { IsOf hub.now pass.new }
     ensures count { vec_len tools.new ≡ vec_len tools.old + vec_len hands }
-    ensures back { IsBack (knows pass.old) tools.old.items hands.items result (knows pass.new) tools.new.items }
-    ensures spares { (s : ℕ) → s ≤ 2 ^ 32 - 1 → s ≤ spares_of pass.old + vec_len hands → s ≤ spares_of pass.new }
+    ensures back { IsBack (knows pass.old) tools.old.items hands.items result (knows pass.new)
+        tools.new.items }
+    ensures spares { (s : ℕ) → s ≤ 2 ^ 32 - 1 → s ≤ spares_of pass.old + vec_len hands →
+        s ≤ spares_of pass.new }
 {
     let mut spent = None;
     for _ in 0..hands.len() {

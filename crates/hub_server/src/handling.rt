@@ -4,8 +4,9 @@ ghost use Rattle.hub_cell.specs.Passes.{IsOf};
 ghost use Rattle.grid_outside.specs.Counts.{Rose};
 ghost use Rattle.hub_server.specs.Statuses.{HasRun};
 
+use crate::waited::LineLink;
 use crossbeam_channel::{Receiver, Sender, bounded};
-use grid_outside::{Clock, Door, Link, NodeLink};
+use grid_outside::{Clock, Door, Line, NodeLink};
 use hub_cell::{Pass, SharedHub};
 use hub_serving::serve_shared;
 use std::alloc::Global;
@@ -40,7 +41,7 @@ struct Desk<'a, R, L: Drop, N: Drop, C: Drop> {
 }
 
 /// Serves links until no more come.
-fn handle<R: Wait, L: Link + Drop, N: NodeLink + Drop, C: Clock + Drop>(
+fn handle<R: Wait, L: Line + Drop, N: NodeLink + Drop, C: Clock + Drop>(
     desk: &Desk<'_, R, L, N, C>,
     mut pass: Pass,
 )
@@ -51,10 +52,11 @@ fn handle<R: Wait, L: Link + Drop, N: NodeLink + Drop, C: Clock + Drop>(
             return;
         };
         let Job {
-            mut link,
+            link,
             mut nodes,
             mut clock,
         } = job;
+        let mut link = LineLink::new(link);
         // What ends one link concerns no other.
         let _ = serve_shared(
             desk.rt, desk.alloc, desk.hub, &mut pass, &mut link, &mut nodes, &mut clock,

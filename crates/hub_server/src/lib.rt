@@ -14,5 +14,6 @@ mod beside;
 mod handling;
 mod passes;
 mod top;
+mod waited;
 
 pub use top::hub_main;

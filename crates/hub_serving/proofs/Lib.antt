@@ -2,7 +2,7 @@ mod OnwardLemmas
 mod CallLemmas
 mod TurnLemmas
 mod ServedLemmas
-mod ClockLemmas
 mod SeatedLemmas
 mod SeatLemmas
 mod TableLemmas
+mod StillLemmas

@@ -19,7 +19,7 @@ use Rattle.hub_workers.specs.World.{Knowledge, world_of}
 use Rattle.hub_serving.specs.Outside.{Outside, outside_of}
 use Rattle.hub_serving.specs.Serving.{EndedSo, Serving, Turned}
 use Rattle.hub_serving.specs.Seats.{AsksFor, Sits, seen_by}
-use Rattle.hub_serving.specs.SharedClock.{SharedTells}
+use Rattle.hub_workers.specs.SharedClock.{SharedTells}
 use Rattle.hub_serving.proofs.TurnLemmas.{node_turn}
 use Rattle.hub_serving.proofs.ServedLemmas.{serving_start}
 

@@ -1,5 +1,5 @@
 -- Lists that go together place by place, of which one place goes on; and what is told of a connection that is over.
-use Rattle.std.proofs.Common.{◌≡◌, ℕ, zero, suc, ◌+◌, ◌<◌, List, [], ◌∷◌, length, slice_set, All, arith}
+use Rattle.std.proofs.Common.{◌≡◌, ℕ, zero, suc, ◌+◌, ◌<◌, List, [], ◌∷◌, ◌++◌, length, slice_set, All, arith}
 use Rattle.std.specs.Prelude.{Option, None, Some, Result, IfSome, true, get_or}
 use Rattle.std.specs.List.{AllZip}
 use Rattle.std.proofs.lemmas.List.Elements.{All-cons, All-nil}
@@ -16,7 +16,7 @@ use Rattle.conn_script.specs.declared.wants.ConnFault.{ConnFault}
 use Rattle.conn_script.specs.declared.wants.Served.{Served}
 use Rattle.hub_conn.specs.SpentLaws.{SpentLaws}
 use Rattle.hub_serving.specs.declared.seats.Seat.{Seat}
-use Rattle.hub_serving.specs.SharedClock.{SharedTells}
+use Rattle.hub_workers.specs.SharedClock.{SharedTells}
 use Rattle.hub_serving.specs.Tables.{IsServed, ServesSeat, first_of, now_of}
 use Rattle.hub_serving.proofs.ServedLemmas.{sees_on, told_spent}
 
@@ -37,6 +37,19 @@ zip_map R Q of [] [] z = tt
 zip_map R Q of [] (y ∷ ys) z = absurd z
 zip_map R Q of (x ∷ xs) [] z = absurd z
 zip_map R Q of (x ∷ xs) (y ∷ ys) z = (of x y z.0, zip_map R Q of xs ys z.1)
+
+-- what holds of each holds where another is put in a place of which it holds
+pub all_put : {X : Type 0} (P : X → Type 0) (xs : List X) (i : ℕ) (new : X) → i < length xs → P new → All P xs → All P (slice_set xs i new)
+all_put P [] i new below p all = absurd (omega (arith, below))
+all_put P (x ∷ xs) zero new below p all = All-cons P new xs p (λ k d inside. all (suc k) d (omega (arith, inside)))
+all_put P (x ∷ xs) (suc i) new below p all =
+    All-cons P x (slice_set xs i new) (all 0 x (omega arith)) (all_put P xs i new (omega (arith, below)) p (λ k d inside. all (suc k) d (omega (arith, inside))))
+
+-- and where one more is put behind them
+pub all_behind : {X : Type 0} (P : X → Type 0) (xs : List X) (new : X) → P new → All P xs → All P (xs ++ new ∷ [])
+all_behind P [] new p all = All-cons P new [] p (All-nil P)
+all_behind P (x ∷ xs) new p all =
+    All-cons P x (xs ++ new ∷ []) (all 0 x (omega arith)) (all_behind P xs new p (λ k d inside. all (suc k) d (omega (arith, inside))))
 
 -- one of them goes on further
 pub zip_on : {X : Type 0} (R : X → X → Type 0) → ((x y z : X) → R x y → R y z → R x z) → (xs ys : List X) (i : ℕ) (d new : X) → AllZip R xs ys → i < length ys →

@@ -13,7 +13,7 @@ use Rattle.hub_serving.specs.declared.stepping.Act.{Act}
 use Rattle.hub_serving.specs.declared.stepping.Act.TheVariants as acts
 use Rattle.hub_serving.specs.Outside.{Outside, outside_of}
 use Rattle.hub_serving.specs.Serving.{EndedSo, Serving}
-use Rattle.hub_serving.specs.SharedClock.{Asked, SharedTells}
+use Rattle.hub_workers.specs.SharedClock.{Asked, SharedTells}
 
 -- What a seat has outside of its connection; the clock is as the seat left it when it asked last. A clock that is shared is made
 -- to pause for nobody, so it tells no pauses.

@@ -14,7 +14,7 @@ use Rattle.hub_serving.specs.declared.seats.Seat.{Seat}
 use Rattle.hub_serving.specs.Outside.{Outside}
 use Rattle.hub_serving.specs.Served.{ServesConnection}
 use Rattle.hub_serving.specs.Serving.{EndedSo}
-use Rattle.hub_serving.specs.SharedClock.{Remembers, SharedTells}
+use Rattle.hub_workers.specs.SharedClock.{Remembers, SharedTells}
 use Rattle.hub_serving.specs.Seats.{Sits, seen_by}
 
 -- its pass, its line and what reaches its nodes
@@ -68,6 +68,20 @@ module _ {L N S C : Type 0} (hub : SharedHub) (line_view : L → LinkView) (stat
   pub record SitsOn (clock : C) (old new : Seat L N C) : Type 0 where
     pub same : first_of line_view state clock_view new ≡ first_of line_view state clock_view old
     pub seated : IsSeated clock new
+
+  -- It is the same connection, and nothing outside of it was done: over each clock it is seated where it was.
+  pub record IsStill (old new : Seat L N C) : Type 0 where
+    pub same : first_of line_view state clock_view new ≡ first_of line_view state clock_view old
+    pub now : now_of line_view state clock_view new ≡ now_of line_view state clock_view old
+    pub ended : ended_of new ≡ ended_of old
+    pub seated : (clock : C) → IsSeated clock old → IsSeated clock new
+
+  -- at a place of a table stands the connection that stood there, further on; or none, as before
+  abbrev pub StaysAt : C → Option (Seat L N C) → Option (Seat L N C) → Type 0
+  StaysAt clock None None = Unit {0}
+  StaysAt clock (Some old) (Some new) = SitsOn clock old new
+  StaysAt clock None (Some new) = ⊥
+  StaysAt clock (Some old) None = ⊥
 
   -- All that is told of a connection that is over: what is said of one that is served alone, over what it had outside when it
   -- began and has now.

@@ -13,6 +13,6 @@ mod serving;
 mod stepping;
 
 pub use hub_conn::{ConnFault, End, Served};
-pub use seats::{Seat, round, seats_stay_seated};
+pub use seats::{Places, Seat, round, seats_stay_seated};
 pub use serving::serve_shared;
 pub use stepping::{Act, Rest};

@@ -4,14 +4,19 @@ ghost use Rattle.std.specs.List.{AllZip};
 ghost use Rattle.hub_cell.specs.declared.hub.SharedHub.{SharedHub};
 ghost use Rattle.hub_cell.specs.Passes.{IsOf};
 ghost use Rattle.hub_serving.specs.Seats.{seen_by};
-ghost use Rattle.hub_serving.specs.SharedClock.{Asked};
+ghost use Rattle.hub_workers.specs.SharedClock.{Asked};
 ghost use Rattle.hub_serving.specs.declared.seats.Seat.{Seat};
 ghost use Rattle.hub_serving.specs.Tables.{IsSeated, Says, ServesSeat, SitsOn, ended_of, first_of, line_of, nodes_of, pass_of};
+
+mod lending;
+mod places;
+mod resting;
 
 use crate::stepping::{Act, advance};
 use grid_outside::{Clock, Line, NodeLine};
 use hub_cell::{Pass, SharedHub};
 use hub_conn::{ConnFault, Served, Talk, conversations_find_spent_last};
+pub use places::Places;
 use std::alloc::Global;
 use std::snapshot::Snapshot;
 use std::sync::Wait;
@@ -78,9 +83,11 @@ impl<L: Line + Drop, N: NodeLine + Drop, C: Clock> Seat<L, N, C> {
         buffer: &mut [u8],
         clock: &mut C,
     ) -> Act
-        requires seated { IsSeated hub.now L.view N.state N.gives N.asks C.gives C.view clock.old self.old }
+        requires seated { IsSeated hub.now L.view N.state N.gives N.asks C.gives C.view clock.old
+            self.old }
         requires room { 0 < length buffer.old }
-        ensures on { SitsOn hub.now L.view N.state N.gives N.asks C.gives C.view clock.new self.old self.new }
+        ensures on { SitsOn hub.now L.view N.state N.gives N.asks C.gives C.view clock.new self.old
+            self.new }
         ensures says { Says L.view N.state C.view result self.old self.new }
         ensures asked { Asked C.gives C.view clock.old clock.new }
     {
@@ -157,10 +164,13 @@ pub fn round<R: Wait, L: Line + Drop, N: NodeLine + Drop, C: Clock>(
     buffer: &mut [u8],
     clock: &mut C,
 )
-    requires seated { All (IsSeated hub.now L.view N.state N.gives N.asks C.gives C.view clock.old) seats.old.items }
+    requires seated { All (IsSeated hub.now L.view N.state N.gives N.asks C.gives C.view clock.old)
+        seats.old.items }
     requires room { 0 < length buffer.old }
-    ensures on { AllZip (SitsOn hub.now L.view N.state N.gives N.asks C.gives C.view clock.new) seats.old.items seats.new.items }
-    ensures seated { All (IsSeated hub.now L.view N.state N.gives N.asks C.gives C.view clock.new) seats.new.items }
+    ensures on { AllZip (SitsOn hub.now L.view N.state N.gives N.asks C.gives C.view clock.new)
+        seats.old.items seats.new.items }
+    ensures seated { All (IsSeated hub.now L.view N.state N.gives N.asks C.gives C.view clock.new)
+        seats.new.items }
     ensures asked { Asked C.gives C.view clock.old clock.new }
 {
     for place in ready {

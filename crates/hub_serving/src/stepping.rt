@@ -4,7 +4,7 @@ ghost use Rattle.grid_outside.specs.Told.{later_by};
 ghost use Rattle.hub_cell.specs.Passes.{IsOf};
 ghost use Rattle.hub_serving.specs.Outside.{Outside};
 ghost use Rattle.hub_serving.specs.Seats.{Acted, Sits, seen_by};
-ghost use Rattle.hub_serving.specs.SharedClock.{Remembers};
+ghost use Rattle.hub_workers.specs.SharedClock.{Remembers};
 
 use crate::calls::make;
 use grid_outside::{Clock, Line, NodeLine};

@@ -1,4 +1,9 @@
+pub mod AmidLemmas
 pub mod LookLemmas
+pub mod TickSeatLemmas
+pub mod TickStageLemmas
 pub mod TurnLemmas
 pub mod WayLemmas
 pub mod WorkLemmas
+pub mod WorkSeatLemmas
+pub mod WorkStageLemmas

@@ -32,7 +32,7 @@ use Rattle.hub_workers.specs.Carried.{HasAt, IsOver, IsUnder, Turned}
 use Rattle.hub_workers.specs.World.{Knowledge, World, world_of}
 use Rattle.hub_workers.specs.WorldLaws.{Ticks, answers_at, went_call, went_exchange, went_spent}
 
-good_node : (v : Knowledge) (r : Reservation) (place to : Place) (came : Came) → Moves r place (answers.Node came) to → HasAt v r place → HasAt v r to
+pub good_node : (v : Knowledge) (r : Reservation) (place to : Place) (came : Came) → Moves r place (answers.Node came) to → HasAt v r place → HasAt v r to
 good_node v r _ _ _ (named answer session caps says) good = good
 good_node v r _ _ _ (failed_at_node came w h) good = good
 good_node v r _ _ _ (was_returned session came) good = good

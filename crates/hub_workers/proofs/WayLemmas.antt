@@ -18,7 +18,7 @@ use Rattle.hub_workers.specs.World.{Knowledge, Went, World}
 use Rattle.hub_workers.specs.WorldLaws.{went_more, went_none}
 
 module _ {N C : Type 0} (hub : SharedHub) (gives : N → List ℕ → Ask → Came → N → Type 0) (tells : C → Tick → ℕ → C → Type 0) where
-  first_good : (v : Knowledge) (r : Reservation) (place : Place) → IsFirst place → HasAt v r at_start → HasAt v r place
+  pub first_good : (v : Knowledge) (r : Reservation) (place : Place) → IsFirst place → HasAt v r at_start → HasAt v r place
   first_good v r at_start f good = good
   first_good v r (at_fail w) f good = good
   first_good v r (at_bind x cs) f good = absurd f

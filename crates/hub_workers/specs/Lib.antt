@@ -1,4 +1,12 @@
+pub mod Amid
+pub mod Benches
 pub mod Carried
+pub mod ClockLaws
+pub mod SharedClock
+pub mod TickSeats
+pub mod TickStages
 pub mod Turns
+pub mod WorkSeats
+pub mod WorkStages
 pub mod World
 pub mod WorldLaws

@@ -7,12 +7,21 @@
 //!   turn; what it holds is let go, since no turn can be had any more.
 #![tactic(auto)]
 
+mod acts;
+mod bench;
 mod ends;
 mod starting;
+mod tick_seats;
+mod tick_steps;
 mod ticking;
+mod work_seats;
+mod work_steps;
 mod working;
 
+pub use acts::WorkAct;
 pub use ends::WorkerEnd;
 pub use starting::carry_out;
+pub use tick_seats::{TickSeat, tickers_stay_at_work};
 pub use ticking::ticker;
+pub use work_seats::{WorkSeat, workers_stay_at_work};
 pub use working::worker;

@@ -16,7 +16,7 @@ use std::alloc::Global;
 use std::sync::Wait;
 
 /// The milliseconds that a ticker pauses at the end of each turn.
-const PAUSE_MS: u64 = 1_000;
+pub const PAUSE_MS: u64 = 1_000;
 
 /// What a look for an idle session came to.
 #[derive(Clone, Copy, Debug)]
@@ -30,7 +30,7 @@ pub enum Idle {
     Spent(Spent),
 }
 
-fn was_sent(came: &Result<Reply, ExchangeFault>) -> bool
+pub fn was_sent(came: &Result<Reply, ExchangeFault>) -> bool
     ensures { result ≡ not (lacked came.now) }
 {
     match came {

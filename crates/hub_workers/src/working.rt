@@ -14,7 +14,7 @@ use std::alloc::Global;
 use std::sync::Wait;
 
 /// The milliseconds that a worker pauses where nothing is assigned to it.
-const PAUSE_MS: u64 = 15;
+pub const PAUSE_MS: u64 = 15;
 
 /// One turn. Some says that the hub is spent.
 fn work_once<R: Wait, N: NodeLink, C: Clock>(

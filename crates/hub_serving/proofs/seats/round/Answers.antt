@@ -2,9 +2,9 @@ use Rattle.std.proofs.Common.{◌<◌, ℕ, ◌∙◌, Global, Vec, length, refl
 use Rattle.std.specs.Prelude.{get_or}
 use Rattle.std.specs.List.{AllZip}
 use Rattle.hub_serving.specs.declared.seats.Seat.{Seat}
-use Rattle.hub_serving.proofs.ClockLemmas.{asked_more}
+use Rattle.hub_workers.specs.ClockLaws.{asked_more}
 use Rattle.hub_serving.proofs.SeatedLemmas.{sits_on}
-use Rattle.hub_serving.specs.SharedClock.{Asked, not_asked}
+use Rattle.hub_workers.specs.SharedClock.{Asked, not_asked}
 use Rattle.hub_serving.specs.Tables.{IsSeated, SitsOn}
 use Rattle.hub_serving.proofs.TableLemmas.{zip_map, zip_on, zip_right, zip_start}
 use Rattle.hub_serving.proofs.seats.round.Goals as goal

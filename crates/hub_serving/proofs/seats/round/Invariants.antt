@@ -1,6 +1,6 @@
 use Rattle.std.proofs.Common.{◌<◌, ℕ, length}
 use Rattle.std.specs.List.{AllZip}
-use Rattle.hub_serving.specs.SharedClock.{Asked}
+use Rattle.hub_workers.specs.SharedClock.{Asked}
 use Rattle.hub_serving.specs.Tables.{SitsOn}
 use Rattle.hub_serving.proofs.seats.round.Given as goal
 

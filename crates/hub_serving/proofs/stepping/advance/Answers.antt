@@ -1,9 +1,9 @@
 use Rattle.std.proofs.Common.{◌≤◌, ℕ, ap, arith, refl, subst, sym}
 use Rattle.grid_outside.specs.Told.{LinkView, later_by}
 use Rattle.hub_cell.specs.Passes.{knows}
-use Rattle.hub_serving.proofs.ClockLemmas.{asked_once, remembers_now, remembers_on, shared_pause, shared_ticks}
+use Rattle.hub_workers.specs.ClockLaws.{asked_once, remembers_now, remembers_on, shared_pause, shared_ticks}
 use Rattle.hub_serving.specs.Seats.{seen_by}
-use Rattle.hub_serving.specs.SharedClock.{SharedTells, not_asked}
+use Rattle.hub_workers.specs.SharedClock.{SharedTells, not_asked}
 use Rattle.hub_serving.proofs.SeatLemmas.{IsNoAsk, begins, ends, goes_on, has_come, rests, waits}
 use Rattle.hub_serving.proofs.TurnLemmas.{begin_turn, hub_turn, over_turn, pause_turn, read_turn, write_turn}
 use Rattle.hub_serving.proofs.stepping.advance.Goals as goal

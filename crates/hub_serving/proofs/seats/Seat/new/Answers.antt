@@ -1,5 +1,5 @@
 use Rattle.std.proofs.Common.{◌∙◌, ap, sym}
-use Rattle.hub_serving.proofs.ClockLemmas.{asked_once, remembers_now}
+use Rattle.hub_workers.specs.ClockLaws.{asked_once, remembers_now}
 use Rattle.hub_serving.proofs.SeatLemmas.{begins_seated, seen_same}
 use Rattle.hub_serving.proofs.seats.Seat.new.Goals as goal
 

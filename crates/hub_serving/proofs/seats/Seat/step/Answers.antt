@@ -2,7 +2,7 @@ use Rattle.std.proofs.Common.{subst}
 use Rattle.std.specs.Prelude.{Option, Result}
 use Rattle.conn_script.specs.declared.wants.ConnFault.{ConnFault}
 use Rattle.conn_script.specs.declared.wants.Served.{Served}
-use Rattle.hub_serving.specs.SharedClock.{not_asked}
+use Rattle.hub_workers.specs.SharedClock.{not_asked}
 use Rattle.hub_serving.specs.Tables.{IsServed, first_of}
 use Rattle.hub_serving.proofs.seats.Seat.step.Goals as goal
 

@@ -2,7 +2,7 @@
 use Rattle.std.proofs.Common.{◌≡◌, ℕ, ◌≤◌, sym, subst, arith}
 use Rattle.grid_outside.specs.Told.{ClockView, Tick, to_tell, later_by, untold}
 use Rattle.hub_workers.specs.WorldLaws.{PausesFor, Ticks}
-use Rattle.hub_serving.specs.SharedClock.{Asked, not_asked, asked_on, Remembers, SharedTells}
+use Rattle.hub_workers.specs.SharedClock.{Asked, not_asked, asked_on, Remembers, SharedTells}
 
 module _ {C : Type 0} (tells : C → Tick → ℕ → C → Type 0) (view : C → ClockView) where
   pub asked_more : (a b c : C) → Asked tells view a b → Asked tells view b c → Asked tells view a c
