@@ -54,6 +54,8 @@ attach_rows =
     ∷ row (codes "node") (codes "browser-version") kind.Name
     ∷ row (codes "node") (codes "platform") kind.Name
     ∷ row (codes "node") (codes "slots") (kind.Number 1 64)
+    ∷ row (codes "node") (codes "capability") kind.Capability
+    ∷ row (codes "node") (codes "once") kind.Truth
     ∷ []
 
 abbrev pub rows_of : Mode → List Row

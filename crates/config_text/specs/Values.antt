@@ -1,10 +1,11 @@
 -- What may stand for a key, and how it is written as a word.
 use Rattle.std.specs.Prelude.{◌&&◌, ◌||◌, ◌==◌, ℕ, ℤ, pos, negsuc, Bool, true, false, not, nat_le}
-use Rattle.std.specs.Prelude.{List, [], ◌∷◌, length, Option, None, Some, codes, decimal, if◌then◌else◌}
+use Rattle.std.specs.Prelude.{List, [], ◌∷◌, length, is_some, Option, None, Some, codes, decimal, if◌then◌else◌}
 use Rattle.std.specs.Char.{is_ascii_alphanumeric}
 use Rattle.std.specs.List.{list_all}
 use Rattle.toml.specs.Data.{Data, string, integer, boolean}
-use Rattle.grid_types.specs.Names.{is_node_address}
+use Rattle.server_words.specs.Addresses.{bare_address, is_reachable}
+use Rattle.server_words.specs.OwnCapabilities.{own_cap}
 use Rattle.config_text.specs.declared.rows.Kind.{Kind}
 use Rattle.config_text.specs.declared.rows.Kind.TheVariants as kind
 
@@ -30,9 +31,13 @@ is_label_byte b = is_ascii_alphanumeric b || b == 45 || b == 95 || b == 46
 abbrev pub is_label : List ℕ → Bool
 is_label text = is_name text && list_all is_label_byte text
 
--- an address of a node that begins with no `-`
+-- an address as the program takes it, which begins with no `-`
 abbrev pub is_address : List ℕ → Bool
-is_address text = is_node_address text && not (begins_with_dash text)
+is_address text = is_reachable (bare_address text) && not (begins_with_dash text)
+
+-- NAME=VALUE, which begins with no `-`
+abbrev pub is_capability : List ℕ → Bool
+is_capability text = is_some (own_cap text) && not (begins_with_dash text)
 
 abbrev pub number_within : ℕ → ℕ → ℤ → Option (List ℕ)
 number_within least most (pos n) = if nat_le least n && nat_le n most then Some (decimal n) else None
@@ -49,4 +54,5 @@ word_for kind.Truth (boolean b) = Some (truth b)
 word_for kind.Name (string text) = if is_name text then Some text else None
 word_for kind.Label (string text) = if is_label text then Some text else None
 word_for kind.Address (string text) = if is_address text then Some text else None
+word_for kind.Capability (string text) = if is_capability text then Some text else None
 word_for k d = None

@@ -26,6 +26,8 @@ pub(crate) enum Kind {
     Label,
     /// The address of a hub or a driver, which begins with no `-`.
     Address,
+    /// A capability `NAME=VALUE`, which begins with no `-`.
+    Capability,
 }
 
 impl fmt::Display for Kind {
@@ -38,6 +40,7 @@ impl fmt::Display for Kind {
                 "a text of 1 to 64 letters, digits, -, _ and ., no - in front",
             ),
             Kind::Address => f.write_str("an address HOST:PORT as a text"),
+            Kind::Capability => f.write_str("a text NAME=VALUE, no - in front"),
         }
     }
 }
@@ -99,6 +102,8 @@ const ATTACH_ROWS: &[Row] = &[
     row!("node", "browser-version", Kind::Name),
     row!("node", "platform", Kind::Name),
     row!("node", "slots", 1..=64),
+    row!("node", "capability", Kind::Capability),
+    row!("node", "once", Kind::Truth),
 ];
 
 /// The table of the program.

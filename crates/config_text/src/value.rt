@@ -2,10 +2,11 @@
 ghost use Rattle.std.specs.Prelude.{◌≡◌, ℤ, IfOk, is_some, option_map, decimal, None, Some, if◌then◌else◌};
 ghost use Rattle.std.specs.List.{list_all};
 ghost use Rattle.toml.specs.View.{view};
-ghost use Rattle.config_text.specs.Values.{begins_with_dash, is_address, is_label, is_label_byte, is_name, is_plain, number_within, truth, word_for};
+ghost use Rattle.config_text.specs.Values.{begins_with_dash, is_address, is_capability, is_label, is_label_byte, is_name, is_plain, number_within, truth, word_for};
 
 use crate::rows::Kind;
-use grid_types::{NoMemory, NodeAddress, Text};
+use grid_types::{NoMemory, Text};
+use server_words::{address_in, names_capability};
 use std::alloc::Global;
 use toml::Value;
 
@@ -45,10 +46,16 @@ fn is_label(text: &[u8]) -> bool
     is_name(text) && are_label_bytes(text)
 }
 
-fn is_address(text: &[u8]) -> bool
+fn is_address(text: &str) -> bool
     ensures { result ≡ is_address text.now }
 {
-    NodeAddress::from_bytes(text).is_some() && !begins_with_dash(text)
+    address_in(text).is_some() && !begins_with_dash(text.as_bytes())
+}
+
+fn is_capability(text: &str) -> bool
+    ensures { result ≡ is_capability text.now }
+{
+    names_capability(text) && !begins_with_dash(text.as_bytes())
 }
 
 /// The number, where it is between the limits.
@@ -86,7 +93,11 @@ pub(crate) fn fits(kind: Kind, value: &Value) -> bool
             None => false,
         },
         Kind::Address => match value.as_str() {
-            Some(text) => is_address(text.as_bytes()),
+            Some(text) => is_address(text),
+            None => false,
+        },
+        Kind::Capability => match value.as_str() {
+            Some(text) => is_capability(text),
             None => false,
         },
     }
@@ -151,7 +162,11 @@ pub(crate) fn word_for(alloc: Global, kind: Kind, value: &Value) -> Result<Optio
             None => Ok(None),
         },
         Kind::Address => match value.as_str() {
-            Some(text) => text_if(alloc, is_address(text.as_bytes()), text),
+            Some(text) => text_if(alloc, is_address(text), text),
+            None => Ok(None),
+        },
+        Kind::Capability => match value.as_str() {
+            Some(text) => text_if(alloc, is_capability(text), text),
             None => Ok(None),
         },
     }

@@ -54,7 +54,8 @@ impl WordList {
 
 /// What stands for a key of a section.
 fn value_at<'a>(document: &'a Table, section: &str, key: &str) -> Option<&'a Value>
-    ensures { option_map (λ v. view v.now) result ≡ value_at (table_view document.now) section.now key.now }
+    ensures { option_map (λ v. view v.now) result
+        ≡ value_at (table_view document.now) section.now key.now }
 {
     match document.get(section) {
         Some(value) => value.get(key),
@@ -69,7 +70,8 @@ fn put_words(
     value: Option<&Value>,
     words: &mut WordList,
 ) -> Result<(), NoMemory>
-    ensures { OnOk result (words.new ≡ words.old ++ words_of (row_told row.now) (option_map (λ v. view v.now) value.entry)) }
+    ensures { OnOk result (words.new ≡ words.old ++ words_of (row_told row.now)
+        (option_map (λ v. view v.now) value.entry)) }
 {
     match value {
         Some(value) => match word_for(alloc, row.kind, value)? {
@@ -90,7 +92,8 @@ pub(crate) fn put_all(
     document: &Table,
     words: &mut WordList,
 ) -> Result<(), NoMemory>
-    ensures { OnOk result (words.new ≡ words.old ++ words_in (map row_told rows.now) (table_view document.now)) }
+    ensures { OnOk result (words.new ≡ words.old ++ words_in (map row_told rows.now)
+        (table_view document.now)) }
 {
     match rows {
         [] => Ok(()),

@@ -1,12 +1,15 @@
 //! The looks at the driver, with what is told to the hub after each.
-ghost use Rattle.std.specs.Prelude.{◌≡◌, IfOk};
+ghost use Rattle.std.specs.Prelude.{◌≡◌, ◌&&◌, IfOk};
 ghost use Rattle.grid_attach.specs.declared.attaching.TheConstants.{BEAT_MS, RETRY_MS};
-ghost use Rattle.grid_attach.specs.Looks.{Attached, IsLook, SignIs, wait_after};
+ghost use Rattle.grid_attach.specs.Looks.{Attached, Beats, IsLook, Registers, SignIs, is_lost, wait_after};
 
-use crate::driver::is_ready;
-use grid_outside::{Clock, NodeLink};
-use grid_types::{NoMemory, NodeAddress, NodeNo};
-use node_signs::{Beat, register, send_beat};
+use crate::build::version;
+use crate::driver::{is_ready, status};
+use crate::registering::node;
+use grid_outside::{Clock, ExchangeFault, NodeLink, Reply};
+use grid_types::{NoMemory, NodeNo};
+use node_signs::{Beat, beat_body, register, registration_body, send_beat};
+use server_words::AttachWords;
 use std::alloc::Global;
 
 /// Milliseconds between two beats.
@@ -21,23 +24,51 @@ pub fn fixed_times()
     ensures retry { RETRY_MS ≡ 1000 }
 {}
 
-/// Tells the hub that the node is there: by a beat where it is registered, else by its registration. Gives the number that
-/// the node has at the hub then, if it has one.
+/// Registers the driver, which answered this to its status. Gives the number that the node has at the hub then, if it has one.
+fn registered<N: NodeLink>(
+    alloc: Global,
+    nodes: &mut N,
+    said: &AttachWords,
+    seen: &Result<Reply, ExchangeFault>,
+) -> Result<Option<NodeNo>, NoMemory>
+    ensures { IfOk result (λ now. Registers N.gives said.now seen.now nodes.old now nodes.new) }
+{
+    let version = version(alloc, said.version.as_str(), seen)?;
+    let node = node(alloc, said, version.as_str())?;
+    let body = registration_body(alloc, &node)?;
+    register(alloc, nodes, &said.hub, body.as_bytes())
+}
+
+/// Sends a beat of the node of this number. Gives the number that it has then, if it still has one.
+fn beaten<N: NodeLink>(
+    alloc: Global,
+    nodes: &mut N,
+    said: &AttachWords,
+    number: NodeNo,
+) -> Result<Option<NodeNo>, NoMemory>
+    ensures { IfOk result (λ now. Beats N.gives said.now number nodes.old now nodes.new) }
+{
+    let body = beat_body(alloc, said.name.as_str())?;
+    match send_beat(alloc, nodes, &said.hub, number, body.as_bytes())? {
+        Beat::Refused => Ok(None),
+        Beat::Taken | Beat::Unanswered => Ok(Some(number)),
+    }
+}
+
+/// Tells the hub that the driver is there, which answered this to its status: by a beat where it is registered, else by
+/// its registration.
 fn sign<N: NodeLink>(
     alloc: Global,
     nodes: &mut N,
-    hub: &NodeAddress,
-    body: &[u8],
+    said: &AttachWords,
+    seen: &Result<Reply, ExchangeFault>,
     known: Option<NodeNo>,
 ) -> Result<Option<NodeNo>, NoMemory>
-    ensures { IfOk result (λ now. SignIs N.gives hub.now body.now known nodes.old now nodes.new) }
+    ensures { IfOk result (λ now. SignIs N.gives said.now seen.now known nodes.old now nodes.new) }
 {
-    let Some(number) = known else {
-        return register(alloc, nodes, hub, body);
-    };
-    match send_beat(alloc, nodes, hub, number)? {
-        Beat::Refused => Ok(None),
-        Beat::Taken | Beat::Unanswered => Ok(known),
+    match known {
+        Some(number) => beaten(alloc, nodes, said, number),
+        None => registered(alloc, nodes, said, seen),
     }
 }
 
@@ -45,15 +76,14 @@ fn sign<N: NodeLink>(
 fn look<N: NodeLink>(
     alloc: Global,
     nodes: &mut N,
-    hub: &NodeAddress,
-    driver: &NodeAddress,
-    body: &[u8],
+    said: &AttachWords,
     known: Option<NodeNo>,
 ) -> Result<Option<NodeNo>, NoMemory>
-    ensures { IfOk result (λ now. IsLook N.gives hub.now driver.now body.now known nodes.old now nodes.new) }
+    ensures { IfOk result (λ now. IsLook N.gives said.now known nodes.old now nodes.new) }
 {
-    if is_ready(alloc, nodes, driver)? {
-        sign(alloc, nodes, hub, body, known)
+    let seen = status(alloc, nodes, &said.driver);
+    if is_ready(&seen)? {
+        sign(alloc, nodes, said, &seen, known)
     } else {
         Ok(known)
     }
@@ -68,25 +98,45 @@ fn wait_after(known: Option<NodeNo>) -> u64
     }
 }
 
-/// Looks at the driver so many times, and tells the hub of it where it is ready: by its registration, whose body this is,
-/// until the hub has given it a number and after a beat that the hub refused, else by a beat. After a look it waits 30 s
-/// where the node is registered, else 1 s. A driver that is not ready is not told of, so that the node lapses. Gives
-/// the number of the node at the end, if it has one. Err: out of memory, which ends the looks.
+/// Whether the node had a number and has none any more: the hub refused its beat.
+fn is_lost(known: Option<NodeNo>, now: Option<NodeNo>) -> bool
+    ensures { result ≡ is_lost known now }
+{
+    match known {
+        Some(_) => now.is_none(),
+        None => false,
+    }
+}
+
+/// Whether the looks end: the node is to be there once, and was lost.
+fn is_over(once: bool, known: Option<NodeNo>, now: Option<NodeNo>) -> bool
+    ensures { result ≡ (once && is_lost known now) }
+{
+    once && is_lost(known, now)
+}
+
+/// Looks at the driver of the words so many times, and tells their hub of it where it is ready: by its registration until
+/// the hub has given it a number and after a beat that the hub refused, else by a beat. It is registered as the words say,
+/// and where they say no version, with the one that the driver's answer tells. After a look it waits 30 s
+/// where the node is registered, else 1 s. A driver that is not ready is not told of, so that the node lapses. Where the
+/// words say so, a beat that the hub refused ends the looks. Gives the number of the node at the end, if it has one. Err:
+/// out of memory, which ends the looks.
 pub fn attach<N: NodeLink, C: Clock>(
     alloc: Global,
     nodes: &mut N,
     clock: &mut C,
-    hub: &NodeAddress,
-    driver: &NodeAddress,
-    body: &[u8],
+    said: &AttachWords,
     looks: u64,
 ) -> Result<Option<NodeNo>, NoMemory>
-    ensures { IfOk result (λ now. Attached N.gives C.gives C.view hub.now driver.now body.now
-        looks nodes.old clock.old now nodes.new clock.new) }
+    ensures { IfOk result (λ now. Attached N.gives C.gives C.view said.now looks nodes.old clock.old now nodes.new clock.new) }
 {
     let mut known = None;
     for _ in 0..looks {
-        known = look(alloc, nodes, hub, driver, body, known)?;
+        let now = look(alloc, nodes, said, known)?;
+        if is_over(said.once, known, now) {
+            return Ok(now);
+        }
+        known = now;
         clock.pause(wait_after(known));
     }
     Ok(known)

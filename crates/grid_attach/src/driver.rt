@@ -1,6 +1,5 @@
 //! Whether the driver is there.
 ghost use Rattle.std.specs.Prelude.{◌≡◌};
-ghost use Rattle.grid_outside.specs.Exchanges.{Came};
 ghost use Rattle.grid_attach.specs.Looks.{ask_for_status, ReadyIs};
 
 use grid_outside::{ExchangeFault, NodeLink, NodeRequest, Reply};
@@ -9,10 +8,11 @@ use node_signs::SERVED;
 use std::alloc::Global;
 use wd_bodies::STATUS;
 
-fn ready(came: &Result<Reply, ExchangeFault>) -> Result<bool, NoMemory>
-    ensures { ReadyIs came.now result }
+/// Whether the driver answered its status with 200. Err: out of memory, in which it was not asked.
+pub(crate) fn is_ready(seen: &Result<Reply, ExchangeFault>) -> Result<bool, NoMemory>
+    ensures { ReadyIs seen.now result }
 {
-    match came {
+    match seen {
         Ok(Reply::Http(reply)) => Ok(reply.status == SERVED),
         Ok(Reply::NotHttp(_)) => Ok(false),
         Err(ExchangeFault::Unreachable) => Ok(false),
@@ -20,14 +20,13 @@ fn ready(came: &Result<Reply, ExchangeFault>) -> Result<bool, NoMemory>
     }
 }
 
-/// Whether the driver answers its own `GET /status` (WebDriver §8.3) with 200. Err: out of memory, in which it was not
-/// asked.
-pub fn is_ready<N: NodeLink>(
+/// What the driver answers to its own `GET /status` (WebDriver §8.3).
+pub(crate) fn status<N: NodeLink>(
     alloc: Global,
     nodes: &mut N,
     driver: &NodeAddress,
-) -> Result<bool, NoMemory>
-    ensures { (came : Came) × (N.gives nodes.old driver.now ask_for_status came nodes.new) × (ReadyIs came result) }
+) -> Result<Reply, ExchangeFault>
+    ensures { N.gives nodes.old driver.now ask_for_status result nodes.new }
 {
     let request = NodeRequest {
         method: b"GET",
@@ -38,6 +37,5 @@ pub fn is_ready<N: NodeLink>(
         content_encoding: None,
         body: b"",
     };
-    let came = nodes.exchange(alloc, driver, &request);
-    ready(&came)
+    nodes.exchange(alloc, driver, &request)
 }

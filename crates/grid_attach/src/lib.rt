@@ -2,10 +2,10 @@
 #![tactic(auto)]
 
 mod attaching;
+mod build;
 mod driver;
 mod program;
 mod registering;
 
 pub use attaching::{BEAT_MS, RETRY_MS, attach, fixed_times};
-pub use driver::is_ready;
 pub use program::attach_main;

@@ -30,23 +30,42 @@ fn push_told(alloc: Global, caps: &mut Caps, name: &str, text: &str) -> Result<(
     }
 }
 
-fn stereotype(alloc: Global, said: &AttachWords) -> Result<Caps, NoMemory>
-    ensures { IfOk result (λ caps. caps ≡ offered said.now) }
+/// What the words name themselves.
+fn push_own(caps: &mut Caps, own: &Caps) -> Result<(), NoMemory>
+    ensures { OnOk result (caps.new ≡ caps.old ++ own.now) }
+{
+    let items = own.items();
+    'own: for item in items {
+        match caps.push(item.clone()?) {
+            Ok(()) => {}
+            Err(_) => return Err(NoMemory),
+        }
+    }
+    Ok(())
+}
+
+fn stereotype(alloc: Global, said: &AttachWords, version: &str) -> Result<Caps, NoMemory>
+    ensures { IfOk result (λ caps. caps ≡ offered said.now version.now) }
 {
     let mut caps = Caps::new(alloc);
     push_text(alloc, &mut caps, "browserName", said.browser.as_str())?;
-    push_told(alloc, &mut caps, "browserVersion", said.version.as_str())?;
+    push_told(alloc, &mut caps, "browserVersion", version)?;
     push_told(alloc, &mut caps, "platformName", said.platform.as_str())?;
+    push_own(&mut caps, &said.own)?;
     Ok(caps)
 }
 
-/// The driver as a node.
-pub(crate) fn node(alloc: Global, said: &AttachWords) -> Result<Registration, NoMemory>
-    ensures { IfOk result (λ r. r ≡ node_said said.now) }
+/// The driver as a node, with this version of its browser.
+pub(crate) fn node(
+    alloc: Global,
+    said: &AttachWords,
+    version: &str,
+) -> Result<Registration, NoMemory>
+    ensures { IfOk result (λ r. r ≡ node_said said.now version.now) }
 {
     let mut groups = Groups::new(alloc);
     let group = SlotGroup {
-        stereotype: stereotype(alloc, said)?,
+        stereotype: stereotype(alloc, said, version)?,
         count: said.slots,
     };
     match groups.push(group) {

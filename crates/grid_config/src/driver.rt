@@ -33,6 +33,7 @@ fn refusal_status(fault: &AttachFault) -> u8
         AttachFault::Driver => REFUSED,
         AttachFault::Name => REFUSED,
         AttachFault::TooLong => REFUSED,
+        AttachFault::Capability => REFUSED,
     }
 }
 
@@ -77,7 +78,7 @@ fn run_text<N: NodeLink, C: Clock>(
 /// The program that puts a driver behind a hub, by a configuration: the input is a text of TOML. It reads the input to
 /// its end, and then does what `attach_main` does for the words that the text stands for, by so many looks.
 ///
-/// 0: every look was made. 2: the program does not take the words. 5: out of memory. 9: the text is no configuration.
+/// 0: every look was made, or the hub refused a beat and the text says that it ends then. 2: the program does not take the words. 5: out of memory. 9: the text is no configuration.
 /// 10: a read failed. With 2, 9 and 10 no node and no hub was asked anything.
 pub fn attach_config_main<S: Source, N: NodeLink, C: Clock>(
     alloc: Global,

@@ -46,11 +46,15 @@ registration_bytes r =
 unfoldable pub registered_bytes : ℕ → List ℕ
 registered_bytes n = codes "{\"value\":{\"node\":" ++ (decimal n ++ codes "}}")
 
--- the request to register
-abbrev pub ask_to_register : List ℕ → Ask
-ask_to_register body = record {
+-- the body of the beats of a node of this name
+unfoldable pub beat_bytes : List ℕ → List ℕ
+beat_bytes name = codes "{\"name\":" ++ json_string name ++ codes "}"
+
+-- a request with a JSON body
+abbrev pub ask_to_post : List ℕ → List ℕ → Ask
+ask_to_post target body = record {
   method = codes "POST";
-  target = NODES.now;
+  target = target;
   accept = None;
   accept_encoding = None;
   content_type = Some JSON_TYPE.now;
@@ -58,21 +62,13 @@ ask_to_register body = record {
   body = body;
 }
 
--- a request without a body
-abbrev pub ask_to_post : List ℕ → Ask
-ask_to_post target = record {
-  method = codes "POST";
-  target = target;
-  accept = None;
-  accept_encoding = None;
-  content_type = None;
-  content_encoding = None;
-  body = [];
-}
+-- the request to register
+abbrev pub ask_to_register : List ℕ → Ask
+ask_to_register body = ask_to_post NODES.now body
 
--- the request that is a beat
-abbrev pub ask_to_beat : ℕ → Ask
-ask_to_beat n = ask_to_post (BEFORE_NODE.now ++ decimal n ++ codes "/beat")
+-- the request that is a beat of the node of this number
+abbrev pub ask_to_beat : ℕ → List ℕ → Ask
+ask_to_beat n body = ask_to_post (BEFORE_NODE.now ++ decimal n ++ codes "/beat") body
 
 -- the number that a served answer gives
 abbrev pub Numbers : Bool → List ℕ → Option ℕ → Type 0

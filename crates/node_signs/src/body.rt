@@ -1,8 +1,8 @@
-//! The registration as JSON.
+//! The registration and the body of a beat as JSON.
 ghost use Rattle.std.specs.Prelude.{◌≡◌, ◌++◌, IfOk, OnOk, map, string_bytes};
 ghost use Rattle.std.specs.List.{join_with_byte};
 ghost use Rattle.grid_types.specs.Capabilities.{json_string, written_caps};
-ghost use Rattle.node_signs.specs.Signs.{comma, registration_bytes, written_drain, written_group, written_names};
+ghost use Rattle.node_signs.specs.Signs.{beat_bytes, comma, registration_bytes, written_drain, written_group, written_names};
 
 use grid_types::{Bytes, Caps, NoMemory, NodeAddress, Registration, SlotGroup};
 use std::alloc::Global;
@@ -23,8 +23,19 @@ pub fn registration_body(alloc: Global, node: &Registration) -> Result<Bytes, No
     Ok(Bytes::from_vec(text.into_bytes()))
 }
 
+/// The body of the beats of a node of this name.
+pub fn beat_body(alloc: Global, name: &str) -> Result<Bytes, NoMemory>
+    ensures { IfOk result (λ b. b ≡ beat_bytes name.now) }
+{
+    let mut text = String::from_str(alloc, "{\"name\":")?;
+    push_json(alloc, &mut text, name)?;
+    text.push_str("}")?;
+    Ok(Bytes::from_vec(text.into_bytes()))
+}
+
 fn push_names(alloc: Global, text: &mut String, node: &Registration) -> Result<(), NoMemory>
-    ensures { OnOk result (string_bytes text.new ≡ string_bytes text.old ++ written_names node.now) }
+    ensures { OnOk result (string_bytes text.new
+        ≡ string_bytes text.old ++ written_names node.now) }
 {
     push_json(alloc, text, node.name.as_str())?;
     text.push_str(",\"address\":")?;
@@ -34,7 +45,8 @@ fn push_names(alloc: Global, text: &mut String, node: &Registration) -> Result<(
 }
 
 fn push_json(alloc: Global, text: &mut String, content: &str) -> Result<(), NoMemory>
-    ensures { OnOk result (string_bytes text.new ≡ string_bytes text.old ++ json_string content.now) }
+    ensures { OnOk result (string_bytes text.new
+        ≡ string_bytes text.old ++ json_string content.now) }
 {
     text.push_str(json_text(alloc, content)?.as_str())?;
     Ok(())
@@ -51,7 +63,8 @@ fn address_text(address: &NodeAddress) -> &str
 }
 
 fn push_drain(text: &mut String, drain_after: Option<u32>) -> Result<(), NoMemory>
-    ensures { OnOk result (string_bytes text.new ≡ string_bytes text.old ++ written_drain drain_after) }
+    ensures { OnOk result (string_bytes text.new
+        ≡ string_bytes text.old ++ written_drain drain_after) }
 {
     if let Some(count) = drain_after {
         write!(text, ",\"drainAfter\":{count}")?;
@@ -81,7 +94,8 @@ fn push_comma(text: &mut String, index: usize) -> Result<(), NoMemory>
 }
 
 fn push_group(alloc: Global, text: &mut String, group: &SlotGroup) -> Result<(), NoMemory>
-    ensures { OnOk result (string_bytes text.new ≡ string_bytes text.old ++ written_group group.now) }
+    ensures { OnOk result (string_bytes text.new
+        ≡ string_bytes text.old ++ written_group group.now) }
 {
     write!(text, "{{\"count\":{},\"stereotype\":", group.count)?;
     push_caps(alloc, text, &group.stereotype)?;

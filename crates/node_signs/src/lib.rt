@@ -6,7 +6,7 @@ mod contact;
 mod number;
 mod signs;
 
-pub use body::registration_body;
+pub use body::{beat_body, registration_body};
 pub use contact::Contact;
 pub use number::number_told;
 pub use signs::{Beat, SERVED, fixed_status, register, send_beat};

@@ -8,7 +8,8 @@ use std::str::from_utf8;
 
 /// The number that decimal digits write.
 fn number_of(digits: &[u8]) -> Option<NodeNo>
-    ensures { MatchOption result ((n : ℕ) → n < 2 ^ 32 → ¬ (digits.now ≡ decimal n)) (λ n. digits.now ≡ decimal n) }
+    ensures { MatchOption result ((n : ℕ) → n < 2 ^ 32 → ¬ (digits.now ≡ decimal n))
+        (λ n. digits.now ≡ decimal n) }
 {
     match from_utf8(digits) {
         Ok(text) => number_in(text),
@@ -17,7 +18,8 @@ fn number_of(digits: &[u8]) -> Option<NodeNo>
 }
 
 fn number_in(text: &str) -> Option<NodeNo>
-    ensures { MatchOption result ((n : ℕ) → n < 2 ^ 32 → ¬ (text.now ≡ decimal n)) (λ n. text.now ≡ decimal n) }
+    ensures { MatchOption result ((n : ℕ) → n < 2 ^ 32 → ¬ (text.now ≡ decimal n))
+        (λ n. text.now ≡ decimal n) }
 {
     match text.parse::<u32>() {
         Ok(number) => {
@@ -45,7 +47,8 @@ fn between<'a>(bytes: &'a [u8], before: &[u8], behind: &[u8]) -> Option<&'a [u8]
 
 /// The number that the answer to a registration gives; None where it gives none.
 pub fn number_told(body: &[u8]) -> Option<NodeNo>
-    ensures { MatchOption result ((n : ℕ) → n < 2 ^ 32 → ¬ (body.now ≡ registered_bytes n)) (λ n. body.now ≡ registered_bytes n) }
+    ensures { MatchOption result ((n : ℕ) → n < 2 ^ 32 → ¬ (body.now ≡ registered_bytes n))
+        (λ n. body.now ≡ registered_bytes n) }
 {
     match between(body, b"{\"value\":{\"node\":", b"}}") {
         Some(digits) => number_of(digits),

@@ -24,7 +24,7 @@ pub fn fixed_status()
 pub enum Beat {
     /// The hub took it.
     Taken,
-    /// The hub answered with another status: it has no such node registered.
+    /// The hub answered with another status: it has no node of that number and name registered.
     Refused,
     /// The hub gave no answer of HTTP.
     Unanswered,
@@ -51,6 +51,28 @@ fn registered(came: &Result<Reply, ExchangeFault>) -> Result<Option<NodeNo>, NoM
     }
 }
 
+/// Posts the body to the hub, and answers what came of it.
+fn posted<'a, N: NodeLink>(
+    alloc: Global,
+    nodes: &mut N,
+    hub: &NodeAddress,
+    target: &'a [u8],
+    body: &'a [u8],
+) -> Result<Reply, ExchangeFault>
+    ensures { N.gives nodes.old hub.now (ask_to_post target.now body.now) result nodes.new }
+{
+    let request = NodeRequest {
+        method: b"POST",
+        target,
+        accept: None,
+        accept_encoding: None,
+        content_type: Some(JSON_TYPE),
+        content_encoding: None,
+        body,
+    };
+    nodes.exchange(alloc, hub, &request)
+}
+
 /// Asks the hub to register a node with this body: its number there, or None where the hub gave none. Err is want of
 /// memory, in which the hub was not asked.
 pub fn register<N: NodeLink>(
@@ -59,18 +81,10 @@ pub fn register<N: NodeLink>(
     hub: &NodeAddress,
     body: &[u8],
 ) -> Result<Option<NodeNo>, NoMemory>
-    ensures { (came : Came) × (N.gives nodes.old hub.now (ask_to_register body.now) came nodes.new) × (RegisterIs came result) }
+    ensures { (came : Came) × (N.gives nodes.old hub.now (ask_to_register body.now) came nodes.new)
+        × (RegisterIs came result) }
 {
-    let request = NodeRequest {
-        method: b"POST",
-        target: NODES.as_bytes(),
-        accept: None,
-        accept_encoding: None,
-        content_type: Some(JSON_TYPE),
-        content_encoding: None,
-        body,
-    };
-    let came = nodes.exchange(alloc, hub, &request);
+    let came = posted(alloc, nodes, hub, NODES.as_bytes(), body);
     registered(&came)
 }
 
@@ -91,38 +105,35 @@ fn taken(came: &Result<Reply, ExchangeFault>) -> Result<Beat, NoMemory>
     }
 }
 
-fn told<N: NodeLink>(
+fn told<'a, N: NodeLink>(
     alloc: Global,
     nodes: &mut N,
     hub: &NodeAddress,
-    target: &[u8],
+    target: &'a [u8],
+    body: &'a [u8],
 ) -> Result<Beat, NoMemory>
-    ensures { (came : Came) × (N.gives nodes.old hub.now (ask_to_post target.now) came nodes.new) × (BeatIs came result) }
+    ensures { (came : Came) × (N.gives nodes.old hub.now (ask_to_post target.now body.now) came
+        nodes.new) × (BeatIs came result) }
 {
-    let request = NodeRequest {
-        method: b"POST",
-        target,
-        accept: None,
-        accept_encoding: None,
-        content_type: None,
-        content_encoding: None,
-        body: b"",
-    };
-    let came = nodes.exchange(alloc, hub, &request);
+    let came = posted(alloc, nodes, hub, target, body);
     taken(&came)
 }
 
-/// Tells the hub that the node of this number is alive. Err: out of memory, in which the hub was not told.
+/// Tells the hub that the node of this number is alive, by a beat with this body. Err: out of memory, in which the hub was
+/// not told.
 pub fn send_beat<N: NodeLink>(
     alloc: Global,
     nodes: &mut N,
     hub: &NodeAddress,
     node: NodeNo,
+    body: &[u8],
 ) -> Result<Beat, NoMemory>
-    ensures { OnOk result ((came : Came) × (N.gives nodes.old hub.now (ask_to_beat node) came nodes.new) × (BeatIs came result)) }
+    ensures { OnOk result ((came : Came)
+        × (N.gives nodes.old hub.now (ask_to_beat node body.now) came nodes.new)
+        × (BeatIs came result)) }
 {
     match format!(in alloc; "{BEFORE_NODE}{node}/beat") {
-        Ok(target) => told(alloc, nodes, hub, target.as_bytes()),
+        Ok(target) => told(alloc, nodes, hub, target.as_bytes(), body),
         Err(_) => Err(NoMemory),
     }
 }

@@ -4,13 +4,14 @@ use Rattle.clap.specs.Words.{App, Row, Text, first_of, matches_of, with_rule}
 use Rattle.grid_types.specs.Config.{default_config}
 use Rattle.grid_types.specs.declared.config.HubConfig.{HubConfig}
 use Rattle.grid_types.specs.declared.limits.TheConstants.{MOST_REQUESTS}
-use Rattle.server_words.specs.Options.{bare, number_of, number_or, truth_of, truth_or}
+use Rattle.server_words.specs.Options.{bare, number_of, number_or, text_of, truth_of, truth_or}
 use Rattle.server_words.specs.declared.hub.HubWords.{HubWords}
 
 abbrev pub hub_command : App
 hub_command =
-    with_rule (with_rule (with_rule (with_rule (with_rule (with_rule (with_rule
+    with_rule (with_rule (with_rule (with_rule (with_rule (with_rule (with_rule (with_rule
     (bare (codes "grid_hub"))
+    (text_of (codes "host")))
     (number_of (codes "port") 1 65_535))
     (number_of (codes "session-request-timeout") 1 86_400))
     (number_of (codes "session-timeout") 10 86_400))

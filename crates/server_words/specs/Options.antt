@@ -1,12 +1,12 @@
 -- Options of a command line, as a simple command of `clap` takes them, and what the words set them to.
-use Rattle.std.specs.Prelude.{◌≡◌, ◌==◌, ◌&&◌, ◌||◌, ℕ, Bool, List, [], Option, Some, None}
+use Rattle.std.specs.Prelude.{◌≡◌, ◌==◌, ◌&&◌, ◌||◌, ℕ, Bool, List, [], ◌∷◌, Option, Some, None}
 use Rattle.std.specs.Prelude.{IfSome, codes, pos, false, not, true}
 use Rattle.std.specs.List.{list_all}
 use Rattle.std.specs.Str.{bytes_eq}
 use Rattle.std.specs.Str.Parse.{digits_value, without_leading_sign}
 use Rattle.clap.specs.Simple.{on_top}
 use Rattle.clap.specs.Words.{App, IsSignedIn, Row, Rule, Text, fault_of, first_of, new_app, new_rule}
-use Rattle.clap.specs.declared.builder.action.ArgAction.TheVariants.{Set}
+use Rattle.clap.specs.declared.builder.action.ArgAction.TheVariants.{Append, Set}
 use Rattle.clap.specs.declared.builder.value_parser.ValueParser.{ValueParser}
 use Rattle.clap.specs.declared.builder.value_parser.ValueParser.TheVariants as parser
 
@@ -25,6 +25,17 @@ truth_of name = option_of name parser.Bool
 -- an option with any text
 abbrev pub text_of : List ℕ → Rule
 text_of name = option_of name parser.String
+
+-- an option with any text that may be set again and again
+abbrev pub texts_of : List ℕ → Rule
+texts_of name = record (new_rule name) { long = Some name; action = Some Append; parser = Some parser.String }
+
+-- an option with `true` or `false`, which is true where it stands without a value
+abbrev pub switch_of : List ℕ → Rule
+switch_of name = record (truth_of name) {
+  range = Some (record { start_inclusive = 0; end_inclusive = 1 });
+  missing = codes "true" ∷ [];
+}
 
 -- the command with no option, which is handed its words without the program's name
 abbrev pub bare : List ℕ → App
@@ -46,6 +57,11 @@ truth_or default (Some text) = bytes_eq text (codes "true")
 abbrev pub text_or : List ℕ → Option Text → List ℕ
 text_or default None = default
 text_or default (Some text) = text
+
+-- all texts that an option was set to
+abbrev pub all_or_none : Option (List Text) → List Text
+all_or_none None = []
+all_or_none (Some texts) = texts
 
 -- the rule is of another option, or wants a number between the limits
 abbrev pub wants_number : ℕ → ℕ → Option ValueParser → Bool

@@ -1,15 +1,21 @@
 //! The words of the program that puts a driver behind a hub.
-ghost use Rattle.std.specs.Prelude.{◌≡◌, ◌≢◌, ◌⊎◌, IfErr, IfOk, map, true};
+ghost use Rattle.std.specs.Prelude.{◌≡◌, ◌≢◌, ◌⊎◌, IfErr, IfOk, Some, is_some, map, true};
 ghost use Rattle.clap.specs.Words.{app_of, found_of, is_simple_and_free, kind_of, matches_of, rows_of};
-ghost use Rattle.grid_types.specs.Names.{is_node_address};
-ghost use Rattle.server_words.specs.AttachOptions.{FitsAttach, HasCause, HasValueCause, HasWordCause, TextsFit, are_label_bytes, are_short, attach_command, attach_driver, attach_hub, attach_said, attach_told, is_label, is_short};
+ghost use Rattle.server_words.specs.Addresses.{bare_address, is_reachable};
+ghost use Rattle.server_words.specs.AttachOptions.{FitsAttach, HasCause, HasValueCause, HasWordCause, TextsFit, are_label_bytes, are_short, attach_command, attach_driver, attach_hub, attach_own, attach_said, attach_told, is_label, is_short};
 ghost use Rattle.server_words.specs.Options.{IsTaken, NumbersFit};
+ghost use Rattle.server_words.specs.OwnCapabilities.{own_caps};
 ghost use Rattle.server_words.specs.declared.attach.AttachFault.TheVariants as fault;
 
-use crate::options::{matched, number, number_option, text, text_option, texts};
+use crate::address::address_in;
+use crate::options::{
+    all_texts, matched, number, number_option, switch_option, text, text_option, texts,
+    texts_option, truth,
+};
+use crate::own_capabilities::put_own;
 use clap::error::ErrorKind;
 use clap::{ArgMatches, Command, Error};
-use grid_types::{MOST_NAME_BYTES, MOST_SLOTS, NoMemory, NodeAddress, Text};
+use grid_types::{Caps, MOST_NAME_BYTES, MOST_SLOTS, NoMemory, NodeAddress, Text};
 use std::alloc::{AllocError, Global};
 use std::fmt;
 
@@ -20,9 +26,12 @@ usage: grid_attach [OPTION VALUE]...
   --driver HOST:PORT          address of the driver (127.0.0.1:9515)
   --name NAME                 name of the node at the hub (driver)
   --browser NAME              browser of its slots (chrome)
-  --browser-version VERSION   version of that browser (none is told)
+  --browser-version VERSION   version of that browser (as the driver tells)
   --platform NAME             platform of its slots (linux)
   --slots COUNT               sessions at once, 1 to 64 (1)
+  --capability NAME=VALUE     one more that its slots offer; again and again
+  --once [true|false]         end where the hub refuses a beat (false)
+HOST:PORT may have http:// in front and / behind. VALUE is JSON, or else a text.
 ";
 
 /// What the words say.
@@ -36,12 +45,16 @@ pub struct AttachWords {
     pub name: Text,
     /// The name of the browser of all its slots.
     pub browser: Text,
-    /// The browser's version; none is told where it is empty.
+    /// The browser's version; that of the driver's build is told where it is empty.
     pub version: Text,
     /// The platform that the browser runs on; none is told where it is empty.
     pub platform: Text,
     /// How many slots it has.
     pub slots: u16,
+    /// What its slots offer beside that.
+    pub own: Caps,
+    /// Whether it ends where the hub refuses a beat.
+    pub once: bool,
 }
 
 /// Why words tell nothing.
@@ -57,6 +70,8 @@ pub enum AttachFault {
     Name,
     /// The browser, its version or its platform is too long.
     TooLong,
+    /// A capability of its own has no name, or no value.
+    Capability,
     /// Out of memory.
     Memory,
 }
@@ -87,13 +102,18 @@ impl fmt::Display for AttachFault {
     fn fmt<W: fmt::Write>(&self, f: &mut fmt::Formatter<W>) -> fmt::Result {
         match self {
             AttachFault::Words(error) => write!(f, "{error}"),
-            AttachFault::Hub => f.write_str("error: the value of --hub is no address"),
-            AttachFault::Driver => f.write_str("error: the value of --driver is no address"),
+            AttachFault::Hub => f.write_str("error: the value of --hub is no address HOST:PORT"),
+            AttachFault::Driver => f.write_str(
+                "error: the value of --driver is no address HOST:PORT",
+            ),
             AttachFault::Name => f.write_str(
                 "error: the value of --name is not of 1 to 64 letters, digits, '-', '_' and '.'",
             ),
             AttachFault::TooLong => f.write_str(
                 "error: a value of --browser, --browser-version or --platform has over 64 bytes",
+            ),
+            AttachFault::Capability => f.write_str(
+                "error: a value of --capability is not NAME=VALUE",
             ),
             AttachFault::Memory => f.write_str("error: out of memory"),
         }
@@ -111,7 +131,9 @@ fn command<'a>(alloc: Global) -> Result<Command<'a>, AllocError>
     let five = four.arg(text_option(alloc, "browser-version"))?;
     let six = five.arg(text_option(alloc, "platform"))?;
     let seven = six.arg(number_option(alloc, "slots", 1, MOST_SLOTS))?;
-    Ok(seven)
+    let eight = seven.arg(texts_option(alloc, "capability"))?;
+    let nine = eight.arg(switch_option(alloc, "once"))?;
+    Ok(nine)
 }
 
 fn are_label_bytes(bytes: &[u8]) -> bool
@@ -158,23 +180,43 @@ fn texts_fit(matches: &ArgMatches<'_>) -> Result<(), AttachFault>
     }
 }
 
+/// The capabilities that the words name themselves.
+fn own(alloc: Global, matches: &ArgMatches<'_>) -> Result<Caps, AttachFault>
+    ensures ok { IfOk result (λ caps. own_caps (attach_own (rows_of (found_of matches.now)))
+        ≡ Some caps) }
+    ensures why { IfErr result (λ f. HasValueCause f (rows_of (found_of matches.now))) }
+{
+    let mut caps = Caps::new(alloc);
+    let Some(texts) = all_texts(matches, "capability") else {
+        return Ok(caps);
+    };
+    if put_own(alloc, texts, &mut caps)? {
+        Ok(caps)
+    } else {
+        Err(AttachFault::Capability)
+    }
+}
+
 fn told(alloc: Global, matches: &ArgMatches<'_>) -> Result<AttachWords, AttachFault>
     requires { NumbersFit attach_command (rows_of (found_of matches.now)) }
     ensures told { IfOk result (λ w. w ≡ attach_told (rows_of (found_of matches.now))) }
-    ensures hub { IfOk result (λ _. is_node_address (attach_hub (rows_of (found_of matches.now))) ≡ true) }
-    ensures driver { IfOk result (λ _. is_node_address (attach_driver (rows_of (found_of matches.now))) ≡ true) }
+    ensures hub { IfOk result (λ _. is_reachable
+        (bare_address (attach_hub (rows_of (found_of matches.now)))) ≡ true) }
+    ensures driver { IfOk result (λ _. is_reachable
+        (bare_address (attach_driver (rows_of (found_of matches.now)))) ≡ true) }
+    ensures own { IfOk result (λ _. is_some (own_caps (attach_own (rows_of (found_of matches.now))))
+        ≡ true) }
     ensures texts { IfOk result (λ _. TextsFit (rows_of (found_of matches.now))) }
     ensures why { IfErr result (λ f. HasValueCause f (rows_of (found_of matches.now))) }
 {
-    let hub = text(matches, "hub", "127.0.0.1:4444");
-    let Some(hub) = NodeAddress::from_bytes(hub.as_bytes()) else {
+    let Some(hub) = address_in(text(matches, "hub", "127.0.0.1:4444")) else {
         return Err(AttachFault::Hub);
     };
-    let driver = text(matches, "driver", "127.0.0.1:9515");
-    let Some(driver) = NodeAddress::from_bytes(driver.as_bytes()) else {
+    let Some(driver) = address_in(text(matches, "driver", "127.0.0.1:9515")) else {
         return Err(AttachFault::Driver);
     };
     texts_fit(matches)?;
+    let own = own(alloc, matches)?;
     Ok(AttachWords {
         hub,
         driver,
@@ -183,11 +225,14 @@ fn told(alloc: Global, matches: &ArgMatches<'_>) -> Result<AttachWords, AttachFa
         version: Text::of(alloc, text(matches, "browser-version", ""))?,
         platform: Text::of(alloc, text(matches, "platform", "linux"))?,
         slots: number(matches, "slots", 1) as u16,
+        own,
+        once: truth(matches, "once", false),
     })
 }
 
 fn fault_for(error: Error) -> AttachFault
-    ensures { (result ≡ fault.Memory) ⊎ (result ≡ fault.Words error) × (kind_of error ≢ ErrorKind.OutOfMemory) }
+    ensures { (result ≡ fault.Memory) ⊎ (result ≡ fault.Words error)
+        × (kind_of error ≢ ErrorKind.OutOfMemory) }
 {
     if error.kind() == ErrorKind::OutOfMemory {
         AttachFault::Memory
@@ -199,11 +244,13 @@ fn fault_for(error: Error) -> AttachFault
 /// What the command finds in the words.
 fn found<'a>(command: Command<'a>, words: &'a [&'a str]) -> Result<ArgMatches<'a>, AttachFault>
     requires { is_simple_and_free (app_of command) ≡ true }
-    ensures taken { IfOk result (λ _. IsTaken (app_of command.entry) (map (λ s. s.now) words.entry.now)) }
+    ensures taken { IfOk result (λ _. IsTaken (app_of command.entry)
+        (map (λ s. s.now) words.entry.now)) }
     ensures rows { IfOk result (λ m. rows_of (found_of m)
         ≡ matches_of (app_of command.entry) (map (λ s. s.now) words.entry.now)) }
     ensures numbers { IfOk result (λ m. NumbersFit (app_of command.entry) (rows_of (found_of m))) }
-    ensures why { IfErr result (λ f. HasWordCause f (app_of command.entry) (map (λ s. s.now) words.entry.now)) }
+    ensures why { IfErr result (λ f. HasWordCause f (app_of command.entry)
+        (map (λ s. s.now) words.entry.now)) }
 {
     match matched(command, words) {
         Ok(matches) => Ok(matches),

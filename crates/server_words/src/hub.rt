@@ -6,8 +6,10 @@ ghost use Rattle.server_words.specs.HubOptions.{AreWithin, hub_command, hub_said
 ghost use Rattle.server_words.specs.Options.{IsTaken, NumbersFit};
 ghost use Rattle.server_words.specs.declared.options.WordsFault.TheVariants as fault;
 
+use crate::host::hub_host;
 use crate::options::{
-    WordsFault, found, matched, number, number_option, reason_of, texts, truth, truth_option,
+    WordsFault, found, matched, number, number_option, reason_of, text_option, texts, truth,
+    truth_option,
 };
 use clap::{ArgMatches, Command, Error};
 use grid_types::{HubConfig, MOST_REQUESTS, Text};
@@ -16,6 +18,7 @@ use std::alloc::{AllocError, Global};
 /// How `grid_hub` is called.
 pub const HUB_USAGE: &str = "\
 usage: grid_hub [OPTION VALUE]...
+  --host ADDRESS                          IP address to listen at (0.0.0.0)
   --port PORT                             TCP port, 1 to 65535 (4444)
   --session-request-timeout SECONDS       wait of a new session, 1 to 86400 (300)
   --session-timeout SECONDS               an idle session ends, 10 to 86400 (300)
@@ -38,11 +41,12 @@ pub struct HubWords {
     pub workers: u32,
 }
 
-fn command<'a>(alloc: Global) -> Result<Command<'a>, AllocError>
+pub(crate) fn command<'a>(alloc: Global) -> Result<Command<'a>, AllocError>
     ensures { IfOk result (λ c. app_of c ≡ hub_command) }
 {
     let bare = Command::new(alloc, "grid_hub").no_binary_name(true);
-    let one = bare.arg(number_option(alloc, "port", 1, 65_535))?;
+    let first = bare.arg(text_option(alloc, "host"))?;
+    let one = first.arg(number_option(alloc, "port", 1, 65_535))?;
     let two = one.arg(number_option(alloc, "session-request-timeout", 1, 86_400))?;
     let three = two.arg(number_option(alloc, "session-timeout", 10, 86_400))?;
     let four = three.arg(truth_option(alloc, "reject-unsupported-caps"))?;
@@ -105,6 +109,14 @@ fn refusal(alloc: Global, words: &[Text]) -> Result<Option<Error>, AllocError> {
 /// What is wrong with words that the hub's program refuses, in one line for whoever called it. None where
 /// they are taken, and where there is no memory to say it.
 pub fn hub_reason(alloc: Global, words: &[Text]) -> Option<String> {
-    let error = refusal(alloc, words).ok()??;
-    reason_of(alloc, &error)
+    match refusal(alloc, words).ok()? {
+        Some(error) => reason_of(alloc, &error),
+        // What the command takes and the program doesn't is the address.
+        None => match hub_host(alloc, words) {
+            Err(WordsFault::Refused) => {
+                String::from_str(alloc, "the value of --host is no IP address").ok()
+            }
+            _ => None,
+        },
+    }
 }

@@ -53,7 +53,8 @@ fn command<'a>(alloc: Global) -> Result<Command<'a>, AllocError>
 fn told(alloc: Global, matches: &ArgMatches<'_>) -> Result<NodeWords, WordsFault>
     requires { NumbersFit node_command (rows_of (found_of matches.now)) }
     ensures told { IfOk result (λ w. w ≡ node_told (rows_of (found_of matches.now))) }
-    ensures address { IfOk result (λ _. is_node_address (hub_address (rows_of (found_of matches.now))) ≡ true) }
+    ensures address { IfOk result (λ _.
+        is_node_address (hub_address (rows_of (found_of matches.now))) ≡ true) }
     ensures refused { IsErrOf result fault.Refused
         → is_node_address (hub_address (rows_of (found_of matches.now))) ≡ false }
 {

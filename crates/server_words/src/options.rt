@@ -1,7 +1,7 @@
 //! Options, what is read of them, and the parse of words.
 ghost use Rattle.std.specs.Prelude.{◌≡◌, ◌≢◌, ◌≤◌, ℕ, IfErr, IfOk, IfSome, IsErrOf, List, Some, [], map, option_map, false, true, pos};
-ghost use Rattle.clap.specs.Words.{HasKind, IsSignedIn, app_of, fault_of, first_of, found_of, is_simple_and_free, kind_of, matches_of, rows_of, rule_of};
-ghost use Rattle.server_words.specs.Options.{IsTaken, NumbersFit, number_of, number_or, text_of, text_or, truth_of, truth_or};
+ghost use Rattle.clap.specs.Words.{HasKind, IsSignedIn, all_of, app_of, fault_of, first_of, found_of, is_simple_and_free, kind_of, matches_of, rows_of, rule_of};
+ghost use Rattle.server_words.specs.Options.{IsTaken, NumbersFit, number_of, number_or, switch_of, text_of, text_or, texts_of, truth_of, truth_or};
 ghost use Rattle.server_words.specs.declared.options.WordsFault.TheVariants as fault;
 
 use clap::builder::ValueParser;
@@ -74,6 +74,27 @@ pub fn text_option<'a>(alloc: Global, name: &'a str) -> Arg<'a>
         .value_parser(ValueParser::String)
 }
 
+/// An option with any text, which may be set again and again.
+pub fn texts_option<'a>(alloc: Global, name: &'a str) -> Arg<'a>
+    ensures rule { rule_of result ≡ texts_of name.entry.now }
+    ensures local { result.global ≡ false }
+{
+    Arg::new(alloc, name)
+        .long(name)
+        .action(ArgAction::Append)
+        .value_parser(ValueParser::String)
+}
+
+/// An option with `true` or `false`, which is true where it stands without a value.
+pub fn switch_option<'a>(alloc: Global, name: &'a str) -> Arg<'a>
+    ensures rule { rule_of result ≡ switch_of name.entry.now }
+    ensures local { result.global ≡ false }
+{
+    truth_option(alloc, name)
+        .num_args(..=1)
+        .default_missing_value("true")
+}
+
 /// The words, lent as strings.
 pub fn texts<'a>(alloc: Global, words: &'a [Text]) -> Result<Vec<&'a str>, AllocError>
     ensures { IfOk result (λ v. map (λ s. s.now) v.items ≡ words.now) }
@@ -98,11 +119,13 @@ fn fault_for(error: &Error) -> WordsFault
 /// What the command finds in the words, or why it doesn't take them.
 pub fn matched<'a>(command: Command<'a>, words: &'a [&'a str]) -> Result<ArgMatches<'a>, Error>
     requires { is_simple_and_free (app_of command) ≡ true }
-    ensures taken { IfOk result (λ _. IsTaken (app_of command.entry) (map (λ s. s.now) words.entry.now)) }
+    ensures taken { IfOk result (λ _. IsTaken (app_of command.entry)
+        (map (λ s. s.now) words.entry.now)) }
     ensures rows { IfOk result (λ m. rows_of (found_of m)
         ≡ matches_of (app_of command.entry) (map (λ s. s.now) words.entry.now)) }
     ensures numbers { IfOk result (λ m. NumbersFit (app_of command.entry) (rows_of (found_of m))) }
-    ensures kinds { IfErr result (HasKind (fault_of (app_of command.entry) (map (λ s. s.now) words.entry.now))) }
+    ensures kinds { IfErr result (HasKind
+        (fault_of (app_of command.entry) (map (λ s. s.now) words.entry.now))) }
 {
     command.try_get_matches_from(words)
 }
@@ -117,7 +140,8 @@ pub fn reason_of(alloc: Global, error: &Error) -> Option<String> {
 /// What the command finds in the words.
 pub fn found<'a>(command: Command<'a>, words: &'a [&'a str]) -> Result<ArgMatches<'a>, WordsFault>
     requires { is_simple_and_free (app_of command) ≡ true }
-    ensures taken { IfOk result (λ _. IsTaken (app_of command.entry) (map (λ s. s.now) words.entry.now)) }
+    ensures taken { IfOk result (λ _. IsTaken (app_of command.entry)
+        (map (λ s. s.now) words.entry.now)) }
     ensures rows { IfOk result (λ m. rows_of (found_of m)
         ≡ matches_of (app_of command.entry) (map (λ s. s.now) words.entry.now)) }
     ensures numbers { IfOk result (λ m. NumbersFit (app_of command.entry) (rows_of (found_of m))) }
@@ -137,6 +161,14 @@ fn set<'a>(matches: &ArgMatches<'a>, name: &str) -> Option<&'a str>
     matches.get_str(name)
 }
 
+/// All texts that the words set an option to, where they set it.
+pub fn all_texts<'m, 'a>(matches: &'m ArgMatches<'a>, name: &str) -> Option<&'m [&'a str]>
+    ensures { option_map (λ texts. map (λ s. s.now) texts.now) result
+        ≡ all_of name.now (rows_of (found_of matches.now)) }
+{
+    matches.get_strs(name)
+}
+
 fn number_in(text: &str) -> u32
     requires small { IsSignedIn (pos 0) (pos 100_000) text.now }
     ensures value { result ≡ number_or 0 (Some text.now) }
@@ -153,7 +185,8 @@ fn number_in(text: &str) -> u32
 pub fn number(matches: &ArgMatches<'_>, name: &str, default: u32) -> u32
     requires small { IfSome (first_of name.now (rows_of (found_of matches.now)))
         (IsSignedIn (pos 0) (pos 100_000)) }
-    ensures value { result ≡ number_or default (first_of name.now (rows_of (found_of matches.now))) }
+    ensures value { result ≡ number_or default
+        (first_of name.now (rows_of (found_of matches.now))) }
     ensures within { (least most : ℕ)
         → IfSome (first_of name.now (rows_of (found_of matches.now))) (IsSignedIn (pos least) (pos most))
         → least ≤ default → default ≤ most → (least ≤ result) × (result ≤ most) }
@@ -176,7 +209,8 @@ pub fn truth(matches: &ArgMatches<'_>, name: &str, default: bool) -> bool
 
 /// The text that an option was set to, or the default.
 pub fn text<'a>(matches: &ArgMatches<'a>, name: &str, default: &'a str) -> &'a str
-    ensures { result.now ≡ text_or default.entry.now (first_of name.now (rows_of (found_of matches.now))) }
+    ensures { result.now ≡ text_or default.entry.now
+        (first_of name.now (rows_of (found_of matches.now))) }
 {
     match set(matches, name) {
         None => default,

@@ -11,4 +11,4 @@ holds (Err e) p = tt
 pub returns-in-Ok : goal.returns-in-Ok
 returns-in-Ok g c =
     holds c.told.result
-    (subst (λ (t : List ℕ). (x : Came) × (g.N.NodeLink.gives c.args.nodes.now c.args.hub.now (ask_to_post t) x c.told.new.nodes) × (BeatIs x c.told.result)) (c.as_bytes.ensures.value ∙ c.in-Ok.ensures.ok) c.told.ensures)
+    (subst (λ (t : List ℕ). (x : Came) × (g.N.NodeLink.gives c.args.nodes.now c.args.hub.now (ask_to_post t c.args.body.now) x c.told.new.nodes) × (BeatIs x c.told.result)) (c.as_bytes.ensures.value ∙ c.in-Ok.ensures.ok) c.told.ensures)

@@ -1,6 +1,7 @@
-use Rattle.std.proofs.Common.{arith}
+use Rattle.std.proofs.Common.{◌≡◌, ℕ, List, true, false, ap, subst, ◌∙◌, arith}
 use Rattle.clap.specs.Words.{found_of, rows_of}
-use Rattle.server_words.proofs.AttachLemmas.{slots_fit}
+use Rattle.server_words.specs.Addresses.{bare_address, is_reachable}
+use Rattle.server_words.proofs.AttachLemmas.{slots_fit, told_as}
 use Rattle.server_words.proofs.Limits.{wider}
 use Rattle.server_words.proofs.attach.told.Goals as goal
 
@@ -11,3 +12,23 @@ pub overflow_cast-result : goal.overflow_cast-result
 overflow_cast-result c =
     let slots = c.number.ensures.within 1 64 (slots_fit (rows_of (found_of c.args.matches.now)) c.requires) (omega arith) (omega arith) in
     omega (arith, slots)
+
+pub returns-in_default-clause-why : goal.returns-in_default-clause-why
+returns-in_default-clause-why c =
+    subst (λ (text : List ℕ). is_reachable (bare_address text) ≡ false) c.text.ensures c.in_default.ensures.none
+
+pub returns-in_default-address_in-clause-why : goal.returns-in_default-address_in-clause-why
+returns-in_default-address_in-clause-why c =
+    subst (λ (text : List ℕ). is_reachable (bare_address text) ≡ false) c.text-2.ensures c.in_default-address_in.ensures.none
+
+pub returns-clause-driver : goal.returns-clause-driver
+returns-clause-driver c =
+    subst (λ (text : List ℕ). is_reachable (bare_address text) ≡ true) c.text-2.ensures c.in-Some-address_in.ensures.taken
+
+pub returns-clause-told : goal.returns-clause-told
+returns-clause-told c =
+    told_as (rows_of (found_of c.args.matches.now)) c.in-Some.hub c.in-Some-address_in.driver c.in_ok-of.field-0 c.in_ok-of-2.field-0 c.in_ok-of-3.field-0 c.in_ok-of-4.field-0
+    c.number.result c.in_ok-own.own c.truth.result
+    (c.in-Some.ensures.some ∙ ap bare_address c.text.ensures) (c.in-Some-address_in.ensures.some ∙ ap bare_address c.text-2.ensures)
+    (c.in_ok-of.ensures ∙ c.text-3.ensures) (c.in_ok-of-2.ensures ∙ c.text-4.ensures) (c.in_ok-of-3.ensures ∙ c.text-5.ensures) (c.in_ok-of-4.ensures ∙ c.text-6.ensures)
+    c.number.ensures.value c.in_ok-own.ensures.ok c.truth.ensures

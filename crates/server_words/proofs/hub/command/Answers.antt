@@ -4,7 +4,8 @@ use Rattle.server_words.proofs.hub.command.Goals as goal
 pub returns : goal.returns
 returns c =
     let bare = started _ c.new.result c.no_binary_name-bare.result c.new.ensures.app c.no_binary_name-bare.ensures in
-    let one = with_option _ _ c.no_binary_name-bare.result c.in_ok-one.one c.number_option.result bare c.in_ok-one.ensures c.number_option.ensures.local c.number_option.ensures.rule in
+    let first = with_option _ _ c.no_binary_name-bare.result c.in_ok-first.first c.text_option.result bare c.in_ok-first.ensures c.text_option.ensures.local c.text_option.ensures.rule in
+    let one = with_option _ _ c.in_ok-first.first c.in_ok-one.one c.number_option.result first c.in_ok-one.ensures c.number_option.ensures.local c.number_option.ensures.rule in
     let two = with_option _ _ c.in_ok-one.one c.in_ok-two.two c.number_option-2.result one c.in_ok-two.ensures c.number_option-2.ensures.local c.number_option-2.ensures.rule in
     let three = with_option _ _ c.in_ok-two.two c.in_ok-three.three c.number_option-3.result two c.in_ok-three.ensures c.number_option-3.ensures.local c.number_option-3.ensures.rule in
     let four = with_option _ _ c.in_ok-three.three c.in_ok-four.four c.truth_option.result three c.in_ok-four.ensures c.truth_option.ensures.local c.truth_option.ensures.rule in

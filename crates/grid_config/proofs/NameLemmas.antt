@@ -1,0 +1,15 @@
+-- That words name one program at most.
+use Rattle.std.proofs.Common.{◌≡◌, ℕ, List, [], ◌∷◌, length, get_or, refl, sym, ap, ◌∙◌, arith}
+use Rattle.config_text.specs.declared.rows.Mode.{Mode}
+use Rattle.config_text.specs.declared.rows.Mode.TheVariants as mode
+use Rattle.grid_config.specs.Servers.{IsNamed}
+
+-- how many bytes the first word has
+abbrev first_length : List (List ℕ) → ℕ
+first_length words = length (get_or words 0 [])
+
+pub one_name : (words : List (List ℕ)) (m k : Mode) → IsNamed words m → IsNamed words k → m ≡ k
+one_name words mode.Hub mode.Hub p q = refl
+one_name words mode.Node mode.Node p q = refl
+one_name words mode.Hub mode.Node p q = let e : 3 ≡ 4 = ap first_length (sym p ∙ q) in absurd (omega (arith, e))
+one_name words mode.Node mode.Hub p q = let e : 4 ≡ 3 = ap first_length (sym p ∙ q) in absurd (omega (arith, e))
