@@ -1,0 +1,11 @@
+pub mod KeepLemmas
+mod KeptLemmas
+mod HoldsLemmas
+mod ThereLemmas
+mod AgainLemmas
+mod SlotLemmas
+mod OpenLemmas
+mod FitLemmas
+mod AlongLemmas
+mod TableLemmas
+mod ReplayLemmas

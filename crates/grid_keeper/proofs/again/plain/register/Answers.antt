@@ -1,0 +1,29 @@
+use Rattle.std.proofs.Common.{refl, ap, sym, ◌∙◌, subst, length, Some, None, ◌≡◌, ◌<◌}
+use Rattle.std.specs.Ordering.{nat_cmp}
+use Rattle.std.specs.BTreeMap.{get}
+use Rattle.grid_types.specs.Tokens.{ticket_of, reservation_of}
+use Rattle.grid_types.specs.Calls.{Call, Reply}
+use Rattle.hub_core.specs.HubView.{past}
+use Rattle.hub_core.specs.Replies.{registering_reply, beating_reply, draining_reply, removal_reply, touching_reply, swept_reply, enqueued_reply, polled_reply, dispatched_reply, binding_reply, failing_reply, ending_reply, expiring_reply}
+use Rattle.grid_journal.specs.declared.rows.Row.TheVariants as row
+use Rattle.grid_keeper.specs.Holds.{place_of, open_after, HoldsAll}
+use Rattle.grid_keeper.proofs.HoldsLemmas.{served}
+use Rattle.grid_keeper.proofs.ThereLemmas.{all_there, registering-given}
+use Rattle.grid_keeper.proofs.AgainLemmas.{went, from_room, all_roomy, stuck}
+use Rattle.grid_keeper.proofs.again.plain.register.Goals as goal
+
+pub returns : goal.returns
+returns c =
+    let made = c.in_ok-room.ensures.ok in
+    let mid = c.room.new.self in
+    let new = c.register-answer.new.self in
+    let left = c.args.left.now in
+    let all = all_roomy c.args.hub.now mid left made c.requires.holds in
+    let serves = c.register-answer.ensures.serves.serves in
+    let some = c.in_ok-answered.ensures in
+    let there = all_there c.tokens_come_from_replies.ensures mid.config (past mid) (past new) (Call.register c.args.registration) c.args.at.0 (registering_reply c.register-answer.result) left
+    c.journal-before.ensures.legal serves.answers some all.complete (registering-given c.register-answer.result left) in
+    let holds : HoldsAll (past new) left = record { holds = served _ _ _ _ _ _ left serves tt all.holds; complete = there } in
+    from_room c.args.hub.now mid new left (row.Register c.args.registration c.args.at) _ made
+    (went mid new left (row.Register c.args.registration c.args.at) (Call.register c.args.registration) (registering_reply c.register-answer.result) _ _ (ap length c.journal-before.ensures.journal) (ap length c.journal.ensures.journal) c.requires.fits refl
+    (λ other named. named) (record { is_good = sym c.is_well_sized.ensures ∙ c.if-not-is_well_sized.false; is_true = tt }) some c.register-answer.ensures.serves holds)

@@ -1,0 +1,5 @@
+pub mod Replays
+pub mod Keeping
+pub mod Holds
+pub mod Opening
+pub mod Settling

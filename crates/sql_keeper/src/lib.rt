@@ -1,0 +1,10 @@
+//! A keeper over a table of an SQL database. It tells no content: what a crash leaves of the table is the database's
+//! promise.
+#![tactic(auto)]
+
+mod faults;
+mod sql_keeper;
+#[cfg(test)]
+mod trial;
+
+pub use sql_keeper::SqlKeeper;
