@@ -23,7 +23,8 @@ pub enum TeamName<'a> {
 /// The team that the head of the reader's request names: by its first header of that name, without white space at both ends.
 /// It takes no memory.
 pub fn team_of(reader: &FrameReader) -> TeamName<'_>
-    ensures { (limits : FrameLimits) (bytes : List ℕ) → Fed limits reader.now bytes → IsTeamName limits bytes result }
+    ensures { (limits : FrameLimits) (bytes : List ℕ) → Fed limits reader.now bytes →
+        IsTeamName limits bytes result }
 {
     match reader.head() {
         Some(head) => match head.find(TEAM_HEADER.as_bytes()) {

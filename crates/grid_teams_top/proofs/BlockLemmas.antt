@@ -33,7 +33,7 @@ use Rattle.loop_node.specs.Sessions.{Node}
 use Rattle.grid_play.specs.Crew.{first_crew}
 use Rattle.grid_play.specs.Talks.{AscendFrom, Standing, standing, Talks, TalksKeepNumbers, TalksStand}
 use Rattle.grid_teams_top.specs.declared.block.BlockLink.{BlockLink}
-use Rattle.grid_teams_top.specs.declared.plays.TeamPlay.{TeamPlay}
+use Rattle.team_words.specs.declared.team_play.TeamPlay.{TeamPlay}
 use Rattle.grid_teams_top.specs.Blocks.{block_view, first_view}
 use Rattle.grid_teams_top.specs.Play.{TeamServes}
 

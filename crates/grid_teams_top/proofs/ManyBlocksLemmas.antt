@@ -2,7 +2,7 @@
 use Rattle.std.proofs.Common.{◌≡◌, ℕ, zero, suc, ◌+◌, ◌<◌, ◌≤◌, ◌++◌, List, [], ◌∷◌, get_or, length, drop, refl, sym, ap, ap₂, ◌∙◌, subst, arith, append_assoc, append-nil}
 use Rattle.grid_play.specs.Talks.{Standing}
 use Rattle.grid_teams_top.specs.declared.playing.TheConstants.{MOST_BLOCK_BYTES}
-use Rattle.grid_teams_top.specs.declared.plays.TeamPlay.{TeamPlay}
+use Rattle.team_words.specs.declared.team_play.TeamPlay.{TeamPlay}
 use Rattle.grid_teams_top.specs.Blocks.{AllShort, ServesBlock, ServesBlocks}
 use Rattle.grid_teams_top.specs.Play.{Block}
 

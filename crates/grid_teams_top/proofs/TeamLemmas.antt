@@ -4,7 +4,7 @@ use Rattle.grid_types.specs.Config.{default_config}
 use Rattle.grid_play.specs.Crew.{first_crew}
 use Rattle.grid_play.specs.Talks.{OneTalk}
 use Rattle.grid_teams_top.specs.Apart.{GivesOne}
-use Rattle.grid_teams_top.specs.declared.plays.TeamPlay.{TeamPlay}
+use Rattle.team_words.specs.declared.team_play.TeamPlay.{TeamPlay}
 use Rattle.grid_teams_top.specs.Play.{Block, Serves, TeamServes, Unserved, names_of}
 
 some_one : (t u : TeamPlay) → Some t ≡ Some u → t ≡ u

@@ -14,7 +14,7 @@ use Rattle.grid_play.specs.Talks.{AscendFrom, Standing, standing}
 use Rattle.grid_teams_top.specs.declared.block.BlockLink.{BlockLink}
 use Rattle.grid_teams_top.specs.declared.playing.PlayingTeam.{PlayingTeam}
 use Rattle.grid_teams_top.specs.declared.playing.TheConstants.{MOST_BLOCK_BYTES}
-use Rattle.grid_teams_top.specs.declared.plays.TeamPlay.{TeamPlay}
+use Rattle.team_words.specs.declared.team_play.TeamPlay.{TeamPlay}
 use Rattle.grid_teams_top.specs.Apart.{ServesAll, ServesOne}
 use Rattle.grid_teams_top.specs.Play.{Block, IsWhose, Serves, TeamServes, Unserved, names_of, nowhere}
 

@@ -3,7 +3,7 @@ ghost use Rattle.std.specs.Prelude.{◌≡◌, ◌≤◌, ◌++◌, ◌∷◌, [
 ghost use Rattle.http_frames.specs.Feeding.{Fed};
 ghost use Rattle.http_frames.specs.declared.frames.FrameLimits.{FrameLimits};
 ghost use Rattle.grid_teams_top.specs.declared.playing.TheConstants.{MOST_BLOCK_BYTES};
-ghost use Rattle.grid_teams_top.specs.declared.plays.TeamPlay.{TeamPlay};
+ghost use Rattle.team_words.specs.declared.team_play.TeamPlay.{TeamPlay};
 ghost use Rattle.grid_teams_top.specs.Blocks.{AllPlay, AllShort, ServedByName, ServesBlock, ServesBlocks, standings};
 ghost use Rattle.grid_teams_top.specs.Refusals.{IsAnswer};
 

@@ -42,8 +42,8 @@ fn reads_further(reader: &FrameReader, bytes: &[u8], at: usize) -> bool
     }
 }
 
-/// Feeds the bytes to the reader, until the head is told or all are fed.
-pub(crate) fn feed_head(reader: &mut FrameReader, bytes: &[u8]) -> Result<(), NoMemory>
+/// Feeds the bytes to the reader, until the head is told or all are fed. Err is want of memory.
+pub fn feed_head(reader: &mut FrameReader, bytes: &[u8]) -> Result<(), NoMemory>
     requires { StandsForSome reader.old }
     ensures { OnOk result ((limits : FrameLimits) (before : List ℕ) → Fed limits reader.old before →
         HasRead limits reader.new before bytes.now) }

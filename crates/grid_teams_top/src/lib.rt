@@ -13,11 +13,11 @@ mod blocks;
 mod heads;
 mod laws;
 mod playing;
-mod plays;
 mod telling;
 
 pub use blocks::{serve_block, serve_blocks};
+pub use heads::feed_head;
 pub use laws::{teams_are_apart, texts_are};
 pub use playing::{MOST_BLOCK_BYTES, PlayingTeam, start};
-pub use plays::TeamPlay;
+pub use team_words::TeamPlay;
 pub use telling::{NO_SUCH_TEAM, NOT_NAMED};

@@ -2,14 +2,13 @@
 ghost use Rattle.std.specs.Prelude.{◌≡◌, ◌≤◌, ◌<◌, ◌^◌, false, IfOk, Ok, length};
 ghost use Rattle.conn_script.specs.declared.wants.Served.{Served};
 ghost use Rattle.grid_teams_top.specs.declared.playing.TheConstants.{MOST_BLOCK_BYTES};
-ghost use Rattle.grid_teams_top.specs.declared.plays.TeamPlay.{TeamPlay};
+ghost use Rattle.team_words.specs.declared.team_play.TeamPlay.{TeamPlay};
 ghost use Rattle.grid_types.specs.Config.{default_config};
 ghost use Rattle.grid_play.specs.Crew.{AllFit};
 ghost use Rattle.grid_teams_top.specs.Play.{TeamServes, first_of};
 ghost use Rattle.grid_teams_top.specs.Blocks.{PlaysFor, ServedAt, standing_of};
 
 use crate::block::BlockLink;
-use crate::plays::TeamPlay;
 use conn_script::fixed_limits;
 use grid_outside::MemClock;
 use grid_play::{crew_of, one_talk, talks_stand};
@@ -19,6 +18,7 @@ use hub_core::LocalHub;
 use local_driver::{ConnFault, Served, serve_local};
 use loop_node::LoopNodes;
 use std::alloc::Global;
+use team_words::TeamPlay;
 
 /// The most bytes of a block.
 pub const MOST_BLOCK_BYTES: u32 = 16_777_216;
@@ -48,17 +48,18 @@ fn usual_config() -> HubConfig
 }
 
 /// A team whose nodes have registered at the moment 0, as of which its clock stands. Err is want of memory.
-pub fn start(alloc: Global, said: TeamPlay) -> Result<PlayingTeam, NoMemory>
-    requires fit { AllFit said.nodes }
-    requires few { length said.nodes < 2 ^ 16 }
-    ensures plays { IfOk result (λ t. PlaysFor said t) }
-    ensures stands { IfOk result (λ t. standing_of t ≡ first_of said) }
+pub fn start(alloc: Global, said: &TeamPlay) -> Result<PlayingTeam, NoMemory>
+    requires fit { AllFit said.now.nodes }
+    requires few { length said.now.nodes < 2 ^ 16 }
+    ensures plays { IfOk result (λ t. PlaysFor said.now t) }
+    ensures stands { IfOk result (λ t. standing_of t ≡ first_of said.now) }
 {
     // A law of what lies below, which does nothing.
     one_talk();
+    let name = Text::of(alloc, said.name.as_str())?;
     let crew = crew_of(alloc, usual_config(), said.nodes.items())?;
     Ok(PlayingTeam {
-        name: said.name,
+        name,
         hub: crew.hub,
         nodes: crew.nodes,
         numbers: crew.numbers,

@@ -1,6 +1,6 @@
 use Rattle.std.proofs.Common.{◌-◌, ◌≤◌, ◌++◌, ℕ, List, drop, length}
 use Rattle.grid_play.specs.Talks.{Standing}
-use Rattle.grid_teams_top.specs.declared.plays.TeamPlay.{TeamPlay}
+use Rattle.team_words.specs.declared.team_play.TeamPlay.{TeamPlay}
 use Rattle.grid_teams_top.specs.Blocks.{AllPlay, ServesBlocks, standings}
 use Rattle.grid_teams_top.proofs.blocks.serve_blocks.Given as goal
 

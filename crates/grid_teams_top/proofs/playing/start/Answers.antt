@@ -33,10 +33,10 @@ pub returns-clause-plays : goal.returns-clause-plays
 returns-clause-plays c =
     let crew = c.in_ok-crew.ensures.crew ∙ (λ i. first_crew (c.usual_config.ensures i) (c.items.ensures i)) in
     record {
-      name_is = refl;
+      name_is = c.in_ok-name.ensures ∙ c.as_str.ensures.bytes;
       config_is = c.in_ok-crew.ensures.config ∙ c.usual_config.ensures;
       numbers_are = ap (λ (w : Crew). w.numbers) crew;
-      numbered = subst (λ (ns : List Node). AscendFrom 1 ns) (sym (ap (λ (w : Crew). w.nodes) crew)) (c.one_talk.ensures.crews default_config c.args.said.nodes c.requires.few);
+      numbered = subst (λ (ns : List Node). AscendFrom 1 ns) (sym (ap (λ (w : Crew). w.nodes) crew)) (c.one_talk.ensures.crews default_config c.args.said.now.nodes c.requires.few);
     }
 
 pub returns-clause-stands : goal.returns-clause-stands

@@ -1,0 +1,3 @@
+pub mod GainsLemmas
+pub mod ReadLemmas
+pub mod OneWayLemmas

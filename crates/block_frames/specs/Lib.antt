@@ -1,0 +1,5 @@
+pub mod Frames
+pub mod Inputs
+pub mod Blocks
+pub mod Outputs
+pub mod OneWay

@@ -1,0 +1,36 @@
+//! Teams in one thread: serves the blocks of standard input, each one connection, by the teams that they name.
+#![tactic(auto)]
+
+use grid_console::{Asked, NoWords, words};
+use grid_outside::{StandardInput, StandardOutput};
+use grid_teams_run::teams_run;
+use grid_types::Text;
+use std::alloc::Global;
+use std::process::ExitCode;
+
+/// How the program is called.
+const USAGE: &str = "\
+usage: grid_teams teams NAME NODE SLOTS [NAME NODE SLOTS]..    blocks of bytes on standard input, each behind its length,
+                                                               and what is written for each on standard output
+";
+
+/// Runs what the arguments say, or tells what they ask of the program.
+fn status_of(rt: HostRuntime, words: &[Text]) -> u8 {
+    if let Some(asked) = Asked::of(words) {
+        asked.tell(&rt, "grid_teams", USAGE);
+        return 0;
+    }
+    let alloc: Global = rt.alloc();
+    let mut input = StandardInput::new(&rt);
+    let mut output = StandardOutput::new(&rt);
+    teams_run(alloc, words, &mut input, &mut output)
+}
+
+fn main(rt: HostRuntime) -> ExitCode {
+    let status = match words(&rt) {
+        Ok(words) => status_of(rt, words.as_slice()),
+        Err(NoWords::NotText) => 2,
+        Err(NoWords::Memory) => 5,
+    };
+    ExitCode::from(status)
+}

@@ -1,0 +1,4 @@
+pub mod LawLemmas
+pub mod ServesLemmas
+pub mod RunLemmas
+pub mod StartLemmas
