@@ -43,6 +43,12 @@ const TEXTS: &[(&str, &str)] = &[
     ("attach", "[node]\nname = \"a b\"\n"),
     ("attach", "[node]\nname = \"a:b\"\n"),
     ("attach", "[node]\ndriver = \"-:1\"\n"),
+    ("attach", "[node]\nhub = \"nowhere\"\n"),
+    (
+        "attach",
+        "[node]\nhub = 'http://h:80/'\ncapability = 'a:b={\"c\": 1}'\nonce = true\n",
+    ),
+    ("attach", "[node]\ncapability = \"=7\"\n"),
 ];
 
 /// What the text says to the program.

@@ -42,7 +42,7 @@ unwritten_fed old new feeds (own, w, bytes, steps, written, st) = fed old new to
 -- something may go before a request
 begins : (nodes : List ℕ) → (steps : List Step) × Begins nodes steps
 begins [] = (Called Call.sweep 0 (Some Reply.nothing) ∷ Called Call.expire 0 (Some Reply.nothing) ∷ [], swept 0 Reply.nothing (none_idle 0))
-begins (node ∷ nodes) = let x = begins nodes in (Called (Call.beat node) 0 (Some Reply.beaten) ∷ x.0, beaten node 0 Reply.beaten x.1)
+begins (node ∷ nodes) = let x = begins nodes in (Called (Call.beat node None) 0 (Some Reply.beaten) ∷ x.0, beaten node 0 Reply.beaten x.1)
 
 begun : (own : Option (List ℕ)) → (steps : List Step) × Begun own steps
 begun None = ([], refl)

@@ -53,6 +53,7 @@ fn hub_says(call: &HubCall) -> HubAnswer
     match call {
         HubCall::Register(_) => HubAnswer::Register(Registering::Registered(7)),
         HubCall::Beat(_) => HubAnswer::Beat(Beating::Beaten),
+        HubCall::BeatAs(_, _) => HubAnswer::Beat(Beating::Beaten),
         HubCall::Drain(_) => HubAnswer::Drain(Draining::Draining),
         HubCall::Remove(_) => HubAnswer::Remove(Removal::NoNode),
         HubCall::Lookup(_) => HubAnswer::Lookup(Found::NoSession),
@@ -151,7 +152,7 @@ fn play(
 /// Three requests, and one that is refused.
 const REQUESTS: [&[u8]; 4] = [
     b"DELETE /se/grid/newsessionqueue/queue HTTP/1.1\r\nHost: h\r\n\r\n",
-    b"POST /se/grid/distributor/node/5/beat HTTP/1.1\r\nExpect: 100-continue\r\nContent-Length: 2\r\n\r\n{}",
+    b"POST /se/grid/distributor/node/5/beat HTTP/1.1\r\nExpect: 100-continue\r\nContent-Length: 12\r\n\r\n{\"name\":\"n\"}",
     b"DELETE /session/a HTTP/1.1\r\n\r\n",
     b"GET /status HTTP/1.1\r\nContent-Length: x\r\n\r\n",
 ];

@@ -1,8 +1,8 @@
 //! The responses' texts, and the call that each route makes first.
 use caps_merge::{CapsFault, RegFault, RegField};
 use conn_script::responses::{
-    caps_refusal, enqueue_refusal, no_such_session, node_not_http, node_unreachable, reg_refusal,
-    registered, settled, success,
+    beat_refusal, caps_refusal, enqueue_refusal, no_such_session, node_not_http, node_unreachable,
+    reg_refusal, registered, settled, success,
 };
 use conn_script::{
     Calling, Creating, Deleting, HubCall, Relaying, Run, Turn, Whole, first_turn, refusal,
@@ -197,6 +197,28 @@ const REG_FAULTS: &[(RegFault, &str)] = &[
     ),
 ];
 
+const BEAT_FAULTS: &[(RegFault, &str)] = &[
+    (
+        RegFault::NotJson(JsonFault::Syntax { at: 3 }),
+        "body is not JSON at byte 3",
+    ),
+    (RegFault::BadField(RegField::Body), "beat: body is refused"),
+    (RegFault::BadField(RegField::Name), "beat: name is refused"),
+    (
+        RegFault::TooLarge { bytes: 16_385 },
+        "beat takes 16385 bytes",
+    ),
+];
+
+#[test]
+fn beats_have_their_messages(rt: HostRuntime) -> Result<(), NoMemory> {
+    for (fault, message) in BEAT_FAULTS {
+        let built = beat_refusal(rt.alloc(), fault, false)?;
+        says(&rt, rt.alloc(), built, INVALID, message)?;
+    }
+    Ok(())
+}
+
 fn registered_says(
     rt: &impl Abort,
     alloc: Global,
@@ -345,11 +367,20 @@ fn responses_are_whole(rt: HostRuntime) -> Result<(), NoMemory> {
     Ok(())
 }
 
+fn named_beat(name: &Text) -> &'static str {
+    if name.as_str() == "n2" {
+        "beat 7 as n2"
+    } else {
+        "beat 7 under another name"
+    }
+}
+
 /// The name of the call that is made first.
 fn call_of(call: &HubCall) -> &'static str {
     match call {
         HubCall::Register(_) => "register",
         HubCall::Beat(7) => "beat 7",
+        HubCall::BeatAs(7, name) => named_beat(name),
         HubCall::Drain(7) => "drain 7",
         HubCall::Remove(7) => "remove 7",
         HubCall::Enqueue(_) => "enqueue",
@@ -406,6 +437,8 @@ fn asked_by(alloc: Global, router: &Router, text: &[u8], body: &[u8]) -> &'stati
     }
 }
 
+const BEAT: &[u8] = b"POST /se/grid/distributor/node/7/beat HTTP/1.1\r\nHost: h\r\n\r\n";
+
 /// Requests with their bodies, and what each asks for first.
 const ROUTES: &[(&[u8], &[u8], &str)] = &[
     (
@@ -441,11 +474,19 @@ const ROUTES: &[(&[u8], &[u8], &str)] = &[
         b"",
         "clear",
     ),
+    (BEAT, b"", "beat 7"),
+    (BEAT, b"{\"name\":\"n2\"}", "beat 7 as n2"),
     (
-        b"POST /se/grid/distributor/node/7/beat HTTP/1.1\r\nHost: h\r\n\r\n",
-        b"",
-        "beat 7",
+        BEAT,
+        b" { \"more\" : [] , \"name\" : \"\\u006e2\" } ",
+        "beat 7 as n2",
     ),
+    (BEAT, b"{}", "400"),
+    (BEAT, b"[]", "400"),
+    (BEAT, b"{\"name\":7}", "400"),
+    (BEAT, b"{\"name\":\"n 2\"}", "400"),
+    (BEAT, b"{\"name\":\"\"}", "400"),
+    (BEAT, b" ", "400"),
     (
         b"POST /se/grid/distributor/node/7/drain HTTP/1.1\r\nHost: h\r\n\r\n",
         b"",

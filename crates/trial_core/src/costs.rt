@@ -158,7 +158,8 @@ fn enqueue_all<L: Ledger>(
 /// most, and nothing is compared where none waits.
 fn dispatches_nothing<L: Ledger>(core: &mut HubCore, steps: &mut Steps<L>) -> bool
     ensures some { StandsForSome core.old → StandsForSome core.new }
-    ensures few { (most : ℕ) (choices : List (List Cap)) → IsPlainCore most choices core.old → steps.new ≤ steps.old + length choices * most }
+    ensures few { (most : ℕ) (choices : List (List Cap)) → IsPlainCore most choices core.old →
+        steps.new ≤ steps.old + length choices * most }
     ensures none { NoneWaits core.old → steps.new ≤ steps.old }
 {
     // For the proof alone: equal requests are of one kind.

@@ -41,7 +41,8 @@ impl Drawers {
 
     pub(crate) fn take_ticket(&mut self, request: ReqNo) -> Option<Ticket>
         ensures stays { (H : List Entry) → Holds H self.old → Holds H self.new }
-        ensures good { (H : List Entry) → Holds H self.old → IfSome result (λ t. IsTicket H request t) }
+        ensures good { (H : List Entry) → Holds H self.old →
+            IfSome result (λ t. IsTicket H request t) }
         ensures gone { get nat_cmp self.new.tickets request ≡ None }
     {
         self.tickets.remove(&request)
@@ -49,7 +50,8 @@ impl Drawers {
 
     pub(crate) fn take_reservation(&mut self, request: ReqNo) -> Option<Reservation>
         ensures stays { (H : List Entry) → Holds H self.old → Holds H self.new }
-        ensures good { (H : List Entry) → Holds H self.old → IfSome result (λ t. IsReservation H request t) }
+        ensures good { (H : List Entry) → Holds H self.old →
+            IfSome result (λ t. IsReservation H request t) }
         ensures gone { get nat_cmp self.new.reservations request ≡ None }
     {
         self.reservations.remove(&request)
@@ -57,7 +59,8 @@ impl Drawers {
 
     pub(crate) fn take_closing(&mut self, slot: SlotId) -> Option<Closing>
         ensures stays { (H : List Entry) → Holds H self.old → Holds H self.new }
-        ensures good { (H : List Entry) → Holds H self.old → IfSome result (λ t. IsClosing H (place_of slot) t) }
+        ensures good { (H : List Entry) → Holds H self.old →
+            IfSome result (λ t. IsClosing H (place_of slot) t) }
         ensures gone { get nat_cmp self.new.closings (place_of slot) ≡ None }
     {
         self.closings.remove(&place_of(slot))
@@ -65,7 +68,8 @@ impl Drawers {
 
     /// Keeps a ticket; without memory it is lost.
     pub(crate) fn keep_ticket(&mut self, ticket: Ticket) -> Result<(), Fault>
-        ensures { (H : List Entry) → Holds H self.old → IsTicket H ticket.request ticket → Holds H self.new }
+        ensures { (H : List Entry) → Holds H self.old → IsTicket H ticket.request ticket →
+            Holds H self.new }
     {
         match self.tickets.insert(ticket.request(), ticket) {
             Ok(_) => Ok(()),
@@ -75,7 +79,8 @@ impl Drawers {
 
     /// Keeps a reservation; without memory it is lost.
     pub(crate) fn keep_reservation(&mut self, reservation: Reservation) -> Result<(), Fault>
-        ensures { (H : List Entry) → Holds H self.old → IsReservation H reservation.request reservation → Holds H self.new }
+        ensures { (H : List Entry) → Holds H self.old →
+            IsReservation H reservation.request reservation → Holds H self.new }
     {
         match self.reservations.insert(reservation.request(), reservation) {
             Ok(_) => Ok(()),
@@ -85,7 +90,8 @@ impl Drawers {
 
     /// Keeps a closing, and tells what it tells; without memory it is lost.
     pub(crate) fn keep_closing(&mut self, closing: Closing) -> Result<Closed, Fault>
-        ensures { (H : List Entry) → Holds H self.old → IsClosing H (place_of closing.slot) closing → Holds H self.new }
+        ensures { (H : List Entry) → Holds H self.old →
+            IsClosing H (place_of closing.slot) closing → Holds H self.new }
     {
         let told = Closed::of(&closing);
         match self.closings.insert(place_of(closing.slot()), closing) {
@@ -113,7 +119,8 @@ impl Drawers {
 
     /// Keeps the reservation of an assignment.
     pub(crate) fn keep_dispatched(&mut self, dispatched: Dispatched) -> Result<Answer, Fault>
-        ensures { (H : List Entry) → Holds H self.old → HasReservation H dispatched → Holds H self.new }
+        ensures { (H : List Entry) → Holds H self.old → HasReservation H dispatched →
+            Holds H self.new }
     {
         match dispatched {
             Dispatched::Assigned(reservation) => {

@@ -1,7 +1,7 @@
 //! A door in memory.
-use crate::links::{reads, writes};
-use crate::parts::{is_unreachable, link, numbers, request};
-use grid_outside::{Clock, Door, MemDoor, MemLink, NodeLink};
+use crate::lines::{line, line_reads, line_writes};
+use crate::parts::{is_unreachable, numbers, request};
+use grid_outside::{Clock, Door, MemDoor, MemLine, NodeLink};
 use grid_types::{Moment, NoMemory, NodeAddress};
 use std::alloc::Global;
 
@@ -17,8 +17,8 @@ pub(crate) fn closed<D: Door>(door: &mut D) -> bool {
     }
 }
 
-fn goes(link: &mut MemLink) -> bool {
-    reads(link, "abc") && writes(link, "cd", 2) && link.taken() == b"cd".as_slice()
+fn goes(line: &mut MemLine) -> bool {
+    line_reads(line, "abc") && line_writes(line, "cd", 2) && line.link().taken() == b"cd".as_slice()
 }
 
 /// Whether the link goes both ways.
@@ -29,10 +29,10 @@ fn hands_out(door: &mut MemDoor) -> bool {
     }
 }
 
-/// A door at moment 5 with one link, of whose binds and accepts these fail.
+/// A door at moment 5 with one link, of whose binds, accepts and gates these fail.
 fn door(alloc: Global, fails: &[u64]) -> Result<MemDoor, NoMemory> {
     let mut door = MemDoor::new(alloc, Moment(5), numbers(alloc, fails)?);
-    match door.push(link(alloc, b"abc", &[], &[])?) {
+    match door.push(line(alloc, b"abc", &[], &[])?) {
         Ok(()) => Ok(door),
         Err(_) => Err(NoMemory),
     }
@@ -43,15 +43,17 @@ fn opens_and_closes(door: &mut MemDoor) -> bool {
         && door.bind(80).is_ok()
         && fails(door)
         && hands_out(door)
+        && door.gate().is_err()
+        && door.gate().is_ok()
         && closed(door)
         && fails(door)
         && closed(door)
 }
 
-/// The first bind fails, and the first and the fourth accept.
+/// The first bind fails, the first gate, and the first accept and the one behind its end.
 #[test]
 fn a_door_hands_out_its_links(rt: HostRuntime) -> Result<(), NoMemory> {
-    let mut door = door(rt.alloc(), &[0, 2, 5])?;
+    let mut door = door(rt.alloc(), &[0, 2, 4, 7])?;
     let so = opens_and_closes(&mut door);
     assert!(rt; so);
     Ok(())

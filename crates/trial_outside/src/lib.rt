@@ -6,6 +6,8 @@ mod clocks;
 #[cfg(test)]
 mod doors;
 #[cfg(test)]
+mod lines;
+#[cfg(test)]
 mod linked;
 #[cfg(test)]
 mod links;
@@ -25,3 +27,7 @@ mod serving;
 mod signs;
 #[cfg(test)]
 mod sockets;
+#[cfg(test)]
+mod tcp_lines;
+#[cfg(test)]
+mod tcp_nodes;

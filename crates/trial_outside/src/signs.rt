@@ -4,7 +4,7 @@ use grid_outside::{Exchange, MemNodes};
 use grid_types::{
     Bytes, Cap, CapValue, Caps, Groups, NoMemory, NodeAddress, Registration, SlotGroup, Text,
 };
-use node_signs::{Beat, number_told, register, registration_body, send_beat};
+use node_signs::{Beat, beat_body, number_told, register, registration_body, send_beat};
 use std::alloc::Global;
 use std::process::Abort;
 
@@ -49,6 +49,8 @@ fn registration(alloc: Global) -> Result<Registration, NoMemory> {
 const BODY: &str =
     "{\"name\":\"n2\",\"address\":\"127.0.0.1:9515\",\"maxSessions\":2,\"drainAfter\":7,\"slots\":[{\"count\":2,\"stereotype\":{\"browserName\":\"chrome\"}}]}";
 
+const BEAT_BODY: &str = "{\"name\":\"n2\"}";
+
 fn body(alloc: Global) -> Result<Bytes, NoMemory> {
     let registration = registration(alloc)?;
     registration_body(alloc, &registration)
@@ -58,6 +60,8 @@ fn body(alloc: Global) -> Result<Bytes, NoMemory> {
 fn a_registration_is_written(rt: HostRuntime) -> Result<(), NoMemory> {
     let body = body(rt.alloc())?;
     assert!(rt; body.as_bytes() == BODY.as_bytes());
+    let beat = beat_body(rt.alloc(), "n2")?;
+    assert!(rt; beat.as_bytes() == BEAT_BODY.as_bytes());
     Ok(())
 }
 
@@ -87,7 +91,7 @@ fn beats(
     hub: &NodeAddress,
 ) -> Result<(), NoMemory> {
     for wanted in BEATS {
-        let came = send_beat(alloc, nodes, hub, 7)?;
+        let came = send_beat(alloc, nodes, hub, 7, BEAT_BODY.as_bytes())?;
         assert!(rt; came == *wanted);
     }
     Ok(())
@@ -114,7 +118,7 @@ fn asked_so(made: &[Exchange]) -> bool {
     match made {
         [register, beat, _, _] => {
             asks(register, "/se/grid/distributor/node", BODY)
-                && asks(beat, "/se/grid/distributor/node/7/beat", "")
+                && asks(beat, "/se/grid/distributor/node/7/beat", BEAT_BODY)
         }
         _ => false,
     }

@@ -2,8 +2,8 @@
 use crate::doors::closed;
 use crate::links::{reads, writes};
 use crate::parts::{is_unreachable, request};
-use grid_outside::{Clock, Door, ExchangeFault, Link, NodeLink, Reply};
-use grid_sockets::{TcpDoor, TcpLink, TcpNodes};
+use grid_outside::{AwaitedLink, Clock, Door, ExchangeFault, Link, NodeLink, Reply};
+use grid_sockets::{TcpDoor, TcpNodes};
 use grid_types::NodeAddress;
 use std::alloc::Global;
 use std::io::{Read, Write};
@@ -13,7 +13,7 @@ use std::thread;
 use std::thread::Threads;
 
 /// The first of a hundred ports that is free.
-fn bound<D: Door>(door: &mut D) -> Option<u16> {
+pub(crate) fn bound<D: Door>(door: &mut D) -> Option<u16> {
     for port in 24_711..24_811_u16 {
         if door.bind(port).is_ok() {
             return Some(port);
@@ -46,35 +46,48 @@ fn goes_to_its_end<L: Link>(link: &mut L, mut client: TcpStream) -> bool {
     goes && reads(link, "")
 }
 
-/// Whether it hands the client's link out.
-fn hands_out<D: Door>(door: &mut D, client: TcpStream) -> bool {
+/// The link of the client that comes in next, waited for by a gate of the door.
+pub(crate) fn next_link<D: Door>(alloc: Global, door: &mut D) -> Option<AwaitedLink<D::G>> {
+    let gate = door.gate().ok()?;
     match door.accept() {
-        Ok(Some(mut link)) => goes_to_its_end(&mut link, client),
-        _ => false,
+        Ok(Some(link)) => AwaitedLink::new(alloc, gate, link).ok(),
+        _ => None,
     }
 }
 
-fn connected<R: Net<Stream = TcpStream>>(rt: &R, port: u16) -> Option<TcpStream> {
+/// Whether it hands the client's link out.
+fn hands_out<D: Door>(alloc: Global, door: &mut D, client: TcpStream) -> bool {
+    match next_link(alloc, door) {
+        Some(mut link) => goes_to_its_end(&mut link, client),
+        None => false,
+    }
+}
+
+pub(crate) fn connected<R: Net<Stream = TcpStream>>(rt: &R, port: u16) -> Option<TcpStream> {
     TcpStream::connect(rt, (Ipv4Addr::LOCALHOST, port)).ok()
 }
 
 /// Whether it opens, hands one link out, and is closed then.
-fn opens_once<R: Net<Stream = TcpStream>, D: Door>(rt: &R, door: &mut D) -> Option<bool> {
+fn opens_once<R: Net<Stream = TcpStream>, D: Door>(
+    rt: &R,
+    alloc: Global,
+    door: &mut D,
+) -> Option<bool> {
     let unbound = door.accept().is_err();
     let port = bound(door)?;
     let client = connected(rt, port)?;
-    Some(unbound && hands_out(door, client) && closed(door))
+    Some(unbound && hands_out(alloc, door, client) && closed(door))
 }
 
 #[test]
 fn a_door_closes_after_its_links(rt: HostRuntime) {
     let mut door = TcpDoor::new(rt, Some(1));
-    let so = opens_once(&rt, &mut door);
+    let so = opens_once(&rt, rt.alloc(), &mut door);
     assert!(rt; so == Some(true));
 }
 
 /// A listener at a port that is free.
-fn listener<R: Net<Listener = TcpListener, Stream = TcpStream>>(
+pub(crate) fn listener<R: Net<Listener = TcpListener, Stream = TcpStream>>(
     rt: &R,
 ) -> Option<(TcpListener, u16)> {
     let listener = TcpListener::bind(rt, (Ipv4Addr::LOCALHOST, 0)).ok()?;
@@ -82,21 +95,8 @@ fn listener<R: Net<Listener = TcpListener, Stream = TcpStream>>(
     Some((listener, port))
 }
 
-fn links_to<R: Net<Listener = TcpListener, Stream = TcpStream>>(rt: &R) -> Option<bool> {
-    let (listener, port) = listener(rt)?;
-    let client = connected(rt, port)?;
-    let (stream, _) = listener.accept().ok()?;
-    Some(goes_to_its_end(&mut TcpLink::new(stream), client))
-}
-
-#[test]
-fn a_stream_is_a_link(rt: HostRuntime) {
-    let so = links_to(&rt);
-    assert!(rt; so == Some(true));
-}
-
 /// Reads a request, and answers with these bytes; whether the request begins as the one that was asked for.
-fn answers_once(listener: &TcpListener, reply: &[u8]) -> bool {
+pub(crate) fn answers_once(listener: &TcpListener, reply: &[u8]) -> bool {
     let Ok((mut stream, _)) = listener.accept() else {
         return false;
     };
@@ -112,10 +112,10 @@ fn answers_once(listener: &TcpListener, reply: &[u8]) -> bool {
 }
 
 /// What a node replies, and what that is.
-type Row = (&'static str, &'static str, Told);
+pub(crate) type Row = (&'static str, &'static str, Told);
 
 #[derive(Clone, Copy)]
-enum Told {
+pub(crate) enum Told {
     /// A reply with this body.
     Http(&'static str),
     /// These bytes.
@@ -123,7 +123,7 @@ enum Told {
 }
 
 /// A reply, by a name too, and what is none, also since it is cut off.
-const ROWS: &[Row] = &[
+pub(crate) const ROWS: &[Row] = &[
     (
         "localhost",
         "HTTP/1.1 200 OK\r\nContent-Length: 2\r\n\r\nhi",
@@ -149,14 +149,14 @@ fn is_told(reply: &Reply, told: Told) -> bool {
     }
 }
 
-fn came_so(came: &Result<Reply, ExchangeFault>, told: Told) -> bool {
+pub(crate) fn came_so(came: &Result<Reply, ExchangeFault>, told: Told) -> bool {
     match came {
         Ok(reply) => is_told(reply, told),
         Err(_) => false,
     }
 }
 
-fn address_of(alloc: Global, host: &str, port: u16) -> Option<NodeAddress> {
+pub(crate) fn address_of(alloc: Global, host: &str, port: u16) -> Option<NodeAddress> {
     let address = format!(in alloc; "{host}:{port}").ok()?;
     NodeAddress::from_bytes(address.as_bytes())
 }
@@ -198,7 +198,7 @@ fn a_node_is_asked_over_its_own_connection(rt: HostRuntime) {
 }
 
 /// An address at which none listens any more.
-fn empty_address<R: Net<Listener = TcpListener, Stream = TcpStream>>(
+pub(crate) fn empty_address<R: Net<Listener = TcpListener, Stream = TcpStream>>(
     rt: &R,
     alloc: Global,
 ) -> Option<NodeAddress> {

@@ -14,7 +14,15 @@ const SECOND: &str =
 const REGISTRATION: &str =
     "{\"name\":\"n2\",\"address\":\"127.0.0.1:5555\",\"maxSessions\":1,\"slots\":[{\"count\":1,\"stereotype\":{\"browserName\":\"firefox\"}}]}";
 
-const ROWS: [Row; 8] = [
+const PLAY_2: &str = "{\"name\":\"play-2\"}";
+
+const NO_NODE: Answered = Answered::Error(
+    "400 Bad Request",
+    "invalid argument",
+    "no registered node has this number",
+);
+
+const ROWS: [Row; 9] = [
     Row {
         words: ONE,
         asked: &[
@@ -95,13 +103,28 @@ const ROWS: [Row; 8] = [
             Asked::Post("/se/grid/distributor/node/9/beat"),
             Asked::Post("/se/grid/distributor/node/1/beat"),
         ],
+        answered: &[NO_NODE, Answered::Success(NOTHING)],
+    },
+    // Nodes 1 and 2 are play-1 and play-2: a beat under a name is heard where it is the name of the node of that number.
+    Row {
+        words: &["play", "chrome", "1", "chrome", "1"],
+        asked: &[
+            Asked::Send("/se/grid/distributor/node/2/beat", PLAY_2),
+            Asked::Send("/se/grid/distributor/node/1/beat", PLAY_2),
+            Asked::Send("/se/grid/distributor/node/3/beat", PLAY_2),
+            Asked::Send("/se/grid/distributor/node/03/beat", "{}"),
+            Asked::Send("/se/grid/distributor/node/1/beat", "{}"),
+        ],
         answered: &[
+            Answered::Success(NOTHING),
+            NO_NODE,
+            NO_NODE,
+            NO_NODE,
             Answered::Error(
                 "400 Bad Request",
                 "invalid argument",
-                "no registered node has this number",
+                "beat: name is refused",
             ),
-            Answered::Success(NOTHING),
         ],
     },
 ];

@@ -2,6 +2,7 @@
 use crate::lists::list;
 use server_words::*;
 use std::alloc::{AllocError, Global};
+use std::net::{IpAddr, Ipv4Addr, Ipv6Addr};
 
 fn is_that_hub(words: &HubWords) -> bool {
     words.port == 80
@@ -47,6 +48,37 @@ fn words_of_the_hub(rt: HostRuntime) -> Result<(), AllocError> {
     Ok(())
 }
 
+/// Words, and where the hub listens by them.
+const HOSTS: &[(&[&str], Option<IpAddr>)] = &[
+    (&[], Some(IpAddr::V4(Ipv4Addr::UNSPECIFIED))),
+    (
+        &["--host", "127.0.0.1"],
+        Some(IpAddr::V4(Ipv4Addr::LOCALHOST)),
+    ),
+    (&["--host=::1"], Some(IpAddr::V6(Ipv6Addr::LOCALHOST))),
+    (
+        &["--host=[::]", "--port=80"],
+        Some(IpAddr::V6(Ipv6Addr::UNSPECIFIED)),
+    ),
+    (&["--host=[127.0.0.1]"], None),
+    (&["--host", "localhost"], None),
+    (&["--hosts", "127.0.0.1"], None),
+];
+
+fn host(alloc: Global, words: &[&str]) -> Result<Option<IpAddr>, AllocError> {
+    let list = list(alloc, words)?;
+    Ok(hub_host(alloc, list.as_slice()).ok())
+}
+
+#[test]
+fn hosts_of_the_hub(rt: HostRuntime) -> Result<(), AllocError> {
+    for (words, due) in HOSTS {
+        let said = host(rt.alloc(), words)?;
+        assert!(rt; said == *due, "{words:?}");
+    }
+    Ok(())
+}
+
 fn is_that_node(words: &NodeWords) -> bool {
     words.hub.as_bytes() == b"localhost:4444".as_slice()
         && words.port == 5_555
@@ -87,11 +119,17 @@ fn is_that_driver(words: &AttachWords) -> bool {
     words.hub.as_bytes() == b"127.0.0.1:4444".as_slice()
         && words.driver.as_bytes() == b"localhost:4445".as_slice()
         && words.version.as_str() == "126.0"
+        && words.once
         && words.platform.as_str() == "linux"
 }
 
 fn is_driver_said(alloc: Global) -> Result<bool, AllocError> {
-    let given: &[&str] = &["--driver=localhost:4445", "--browser-version", "126.0"];
+    let given: &[&str] = &[
+        "--driver=http://localhost:4445/",
+        "--once",
+        "--browser-version",
+        "126.0",
+    ];
     let list = list(alloc, given)?;
     match attach_words(alloc, list.as_slice()) {
         Ok(words) => Ok(is_that_driver(&words)),
@@ -106,6 +144,13 @@ const NO_DRIVER: &[(&[&str], &str)] = &[
         "error: invalid value '65' for '--slots <slots>'",
     ),
     (&["--name", "a b"], "error: the value of --name is"),
+    (&["--hub", "https://h:1"], "error: the value of --hub is"),
+    (&["--driver", "h"], "error: the value of --driver is"),
+    (&["--driver", ":1"], "error: the value of --driver is"),
+    (
+        &["--capability", "=1"],
+        "error: a value of --capability is not NAME=VALUE",
+    ),
     (
         &["--driver"],
         "error: a value is required for '--driver <driver>'",

@@ -4,7 +4,11 @@
 #[cfg(test)]
 mod configured;
 #[cfg(test)]
+mod gates;
+#[cfg(test)]
 mod held;
+#[cfg(test)]
+mod held_gate;
 #[cfg(test)]
 mod loopback;
 #[cfg(test)]

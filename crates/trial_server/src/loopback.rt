@@ -3,10 +3,11 @@ use crate::tests::words;
 use grid_node::node_main;
 use grid_sockets::TcpDoor;
 use hub_server::hub_main;
-use std::alloc::Global;
 use std::io::{Read, Write};
 use std::net::{Ipv4Addr, TcpListener, TcpStream};
+use std::sync::Wait;
 use std::test::Fail;
+use std::thread::Threads;
 use std::time::Duration;
 use std::{io, thread};
 
@@ -72,31 +73,56 @@ fn free_ports(rt: &HostRuntime) -> io::Result<(u16, u16)> {
     Ok((one.local_addr()?.port(), other.local_addr()?.port()))
 }
 
-/// The hub takes the links of the node and of the client, the node the three that the session needs.
-#[test]
-fn a_session_goes_through_hub_and_node(rt: HostRuntime) -> Result<(), Fail> {
-    let alloc = rt.alloc();
-    let (port, node_port) = free_ports(&rt)?;
+/// Connections to the hub that say nothing.
+fn silent(rt: &HostRuntime, port: u16, count: usize) -> Option<Vec<TcpStream>> {
+    let mut streams = Vec::new(rt.alloc());
+    for _ in 0..count {
+        streams.push(connected(rt, port)?).ok()?;
+    }
+    Some(streams)
+}
+
+/// Whether a session goes its way while so many connections say nothing.
+fn one_session_beside(rt: &HostRuntime, port: u16, count: usize) -> Option<bool> {
+    let silent = silent(rt, port, count)?;
+    let is_so = one_session(rt, port)?;
+    Some(is_so && silent.len() == count)
+}
+
+/// Whether a session goes through a hub with these further words and a node, while so many connections say nothing. The hub takes
+/// their links and those of the node and of the client, the node the three that the session needs.
+fn goes_through<R: Threads + Wait + Sync>(
+    rt: &R,
+    runtime: HostRuntime,
+    more: &str,
+    count: usize,
+) -> Result<bool, Fail> {
+    let alloc = runtime.alloc();
+    let (port, node_port) = free_ports(&runtime)?;
     let hub_port = format!(in alloc; "--port={port}")?;
     let node_port = format!(in alloc; "--port={node_port}")?;
     let hub = format!(in alloc; "--hub=127.0.0.1:{port}")?;
-    let hub_words = words(alloc, &[hub_port.as_str()])?;
+    let hub_words = words(alloc, &[hub_port.as_str(), more])?;
     let node_words = words(alloc, &[hub.as_str(), node_port.as_str()])?;
-    let mut hub_door = TcpDoor::new(rt, Some(2));
-    let mut node_door = TcpDoor::new(rt, Some(3));
+    let mut hub_door = TcpDoor::new(runtime, Some((count as u64).saturating_add(2)));
+    let mut node_door = TcpDoor::new(runtime, Some(3));
     let (hub_status, (node_status, session)) = thread::join(
-        &rt,
-        || hub_main(&rt, alloc, hub_words.as_slice(), &mut hub_door),
+        rt,
+        || hub_main(rt, alloc, hub_words.as_slice(), &mut hub_door),
         || {
             thread::join(
-                &rt,
-                || node_main(&rt, alloc, node_words.as_slice(), &mut node_door),
-                || one_session(&rt, port),
+                rt,
+                || node_main(rt, alloc, node_words.as_slice(), &mut node_door),
+                || one_session_beside(&runtime, port, count),
             )
         },
     );
-    assert_eq!(rt; hub_status, 0);
-    assert_eq!(rt; node_status, 0);
-    assert_eq!(rt; session, Some(true));
+    Ok((hub_status, node_status, session) == (0, 0, Some(true)))
+}
+
+#[test]
+fn a_session_goes_through_hub_and_node(rt: HostRuntime) -> Result<(), Fail> {
+    let is_so = goes_through(&rt, rt, "--handlers=64", 0)?;
+    assert!(rt; is_so);
     Ok(())
 }

@@ -4,7 +4,7 @@ ghost use Rattle.grid_types.specs.Permitted.{is_well_sized};
 ghost use Rattle.hub_cell.specs.Passes.{IsOf, knows, spares_of};
 ghost use Rattle.hub_cell.specs.Shared.{HasTicket};
 
-use crate::held::{HeldClock, HeldNodes, Role, Shared};
+use crate::held::{HeldClock, HeldNodes, Shared};
 use grid_types::{
     Cap, CapValue, Caps, Choices, Groups, HubConfig, Moment, NoMemory, NodeAddress, Outcome,
     Registration, SlotGroup, Text,
@@ -82,10 +82,10 @@ fn has_session<R: Wait>(rt: &R, hub: &SharedHub, client: Client) -> bool
     }
 }
 
-fn tool<'a>(rt: HostRuntime, shared: &'a Shared, role: Role) -> Tool<HeldNodes<'a>, HeldClock<'a>> {
+fn tool<'a>(rt: HostRuntime, shared: &'a Shared) -> Tool<HeldNodes<'a>, HeldClock> {
     Tool {
-        nodes: HeldNodes::new(rt, shared, role),
-        clock: HeldClock::new(rt, shared, role),
+        nodes: HeldNodes::new(rt, shared),
+        clock: HeldClock::new(rt),
     }
 }
 
@@ -105,8 +105,8 @@ fn both_start<R: Threads + Wait + Sync>(
     let one = enqueued(rt, alloc, hub, first)?;
     let other = enqueued(rt, alloc, hub, first)?;
     let mut tools = Vec::new(alloc);
-    tools.push(tool(runtime, shared, Role::FirstWorker)).ok()?;
-    tools.push(tool(runtime, shared, Role::SecondWorker)).ok()?;
+    tools.push(tool(runtime, shared)).ok()?;
+    tools.push(tool(runtime, shared)).ok()?;
     if (first.spares() as usize) < tools.len() {
         return None;
     }

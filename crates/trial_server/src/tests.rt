@@ -1,5 +1,6 @@
 //! The running hub, over doors in memory and over TCP.
-use crate::held::{HeldDoor, Shared};
+use crate::held::Shared;
+use crate::held_gate::HeldDoor;
 use grid_types::Text;
 use hub_server::hub_main;
 use std::alloc::Global;
@@ -14,7 +15,7 @@ pub(crate) fn words(alloc: Global, list: &[&str]) -> Result<Vec<Text>, Fail> {
     Ok(words)
 }
 
-/// Two sessions are started by two workers, each only once both were asked for.
+/// Two sessions are started by workers or connections, each only once both were asked for.
 #[test]
 fn a_hub_starts_sessions_beside_each_other(rt: HostRuntime) -> Result<(), Fail> {
     let alloc = rt.alloc();

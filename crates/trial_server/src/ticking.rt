@@ -1,25 +1,24 @@
 //! A hub without workers, whose node falls silent.
-ghost use Rattle.std.specs.Prelude.{◌≡◌, ℕ, ◌≤◌, None, length};
+ghost use Rattle.std.specs.Prelude.{◌≡◌, ℕ, ◌<◌, ◌≤◌, List, ◌++◌, None, IfOk, length, vec_capacity};
 ghost use Rattle.grid_outside.specs.Told.{counting};
 
-use crate::held::{HeldNodes, REGISTRATION, Role, Shared, give};
+use crate::gates::{HeldNodeLine, SharedClock, name_places, pass_time};
+use crate::held::{HeldNodes, REGISTRATION, Shared, give};
 use crate::tests::words;
-use grid_outside::{Door, Failed, Link, MemClock};
-use grid_types::Moment;
+use grid_outside::{Door, Failed, Gate, Line, Reading, Writing};
 use hub_server::hub_main;
 use std::sync::atomic::{AtomicU64, Ordering};
 use std::test::Fail;
-use std::thread;
-use std::time::Duration;
 
 const STATUS: &[u8] = b"GET /status HTTP/1.1\r\n\r\n";
 
 const NO_NODE: &[u8] = b"\"nodes\":[]";
 
-/// Gives a registration, and then asks for the status until it tells of no node.
+/// Gives a registration, and then asks for the status, each time 100 ms later, until it tells of no node.
 #[derive(Drop)]
 struct Asker<'a> {
     rt: HostRuntime,
+    shared: &'a Shared,
     // How many responses had status 200.
     taken: &'a AtomicU64,
     is_empty: bool,
@@ -27,41 +26,71 @@ struct Asker<'a> {
     ends: u64,
 }
 
-impl<'a> Link for Asker<'a> {
+impl<'a> Line for Asker<'a> {
     ghost view = { λ l. counting 0 0 l.ends };
 
-    ghost Same = { λ x y. Unit {0} };
-
-    ghost same_refl = { λ x. tt };
-
-    ghost same_trans = { λ x y z p q. tt };
-
-    fn read(&mut self, into: &mut [u8]) -> Result<usize, Failed> {
+    fn read(&mut self, into: &mut [u8]) -> Reading {
         let count = if self.asked == 0 {
             give(REGISTRATION, into)
         } else if self.is_empty || self.asked > 10_000 {
             0
         } else {
-            thread::sleep(&self.rt, Duration::from_millis(1));
+            pass_time(&self.rt, &self.shared.time, 100);
             give(STATUS, into)
         };
         self.asked = self.asked.saturating_add(1);
-        if count == 0 {
-            self.ends = self.ends.saturating_add(1);
+        if count > 0 {
+            return Reading::Bytes(count);
         }
-        Ok(count)
+        self.ends = self.ends.saturating_add(1);
+        Reading::End
     }
 
-    fn write(&mut self, from: &[u8]) -> Result<usize, Failed> {
+    fn write(&mut self, from: &[u8]) -> Writing {
         if from.starts_with(b"HTTP/1.1 200") {
             self.taken.fetch_add(1, Ordering::SeqCst);
         }
         self.is_empty = from.windows(NO_NODE.len()).any(|part| part == NO_NODE);
-        Ok(from.len())
+        Writing::Bytes(from.len())
     }
 }
 
-/// Hands out one link. Its clocks' pauses take no time.
+/// A wait takes 1 ms.
+#[derive(Drop)]
+struct TickingGate<'a> {
+    rt: HostRuntime,
+    shared: &'a Shared,
+    places: usize,
+}
+
+impl<'a> Gate for TickingGate<'a> {
+    type L = Asker<'a>;
+
+    type N = HeldNodeLine<'a>;
+
+    type C = SharedClock<'a>;
+
+    fn wait(&mut self, ms: u64, ready: &mut Vec<usize>) {
+        pass_time(&self.rt, &self.shared.time, ms);
+        name_places(self.places, ready);
+    }
+
+    fn admit(
+        &mut self,
+        place: usize,
+        link: Asker<'a>,
+    ) -> Result<(Asker<'a>, HeldNodeLine<'a>), Failed> {
+        self.places = self.places.max(place.saturating_add(1));
+        Ok((link, HeldNodeLine::new(self.shared)))
+    }
+
+    fn nodes(&mut self, place: usize) -> HeldNodeLine<'a> {
+        self.places = self.places.max(place.saturating_add(1));
+        HeldNodeLine::new(self.shared)
+    }
+}
+
+/// Hands out one link. The time of its clocks goes on by waits alone.
 #[derive(Drop)]
 struct TickingDoor<'a> {
     rt: HostRuntime,
@@ -77,7 +106,9 @@ impl<'a> Door for TickingDoor<'a> {
 
     type N = HeldNodes<'a>;
 
-    type C = MemClock;
+    type C = SharedClock<'a>;
+
+    type G = TickingGate<'a>;
 
     ghost view = { λ d. record { faults = 0; ends = d.ends; bound = d.bound } };
 
@@ -94,6 +125,7 @@ impl<'a> Door for TickingDoor<'a> {
         self.is_open = false;
         Ok(Some(Asker {
             rt: self.rt,
+            shared: self.shared,
             taken: self.taken,
             is_empty: false,
             asked: 0,
@@ -101,12 +133,20 @@ impl<'a> Door for TickingDoor<'a> {
         }))
     }
 
-    fn nodes(&mut self) -> HeldNodes<'a> {
-        HeldNodes::new(self.rt, self.shared, Role::Ticker)
+    fn gate(&mut self) -> Result<TickingGate<'a>, Failed> {
+        Ok(TickingGate {
+            rt: self.rt,
+            shared: self.shared,
+            places: 0,
+        })
     }
 
-    fn clock(&mut self) -> MemClock {
-        MemClock::new(Moment(0))
+    fn nodes(&mut self) -> HeldNodes<'a> {
+        HeldNodes::new(self.rt, self.shared)
+    }
+
+    fn clock(&mut self) -> SharedClock<'a> {
+        SharedClock::new(self.rt, self.shared)
     }
 }
 

@@ -20,7 +20,8 @@ fn turn<N: NodeLink, C: Clock>(
 ) -> Option<CarryEnd>
     requires fresh { is_fresh carry.old ≡ true }
     requires under { IsUnder carry.old (past hub.old) }
-    ensures turned { Turned N.gives carry.old (world_of hub.old nodes.old (C.view clock.old).moment) result carry.new (world_of hub.new nodes.new (C.view clock.new).moment) }
+    ensures turned { Turned N.gives carry.old (world_of hub.old nodes.old (C.view clock.old).moment)
+        result carry.new (world_of hub.new nodes.new (C.view clock.new).moment) }
     ensures fresh { is_fresh carry.new ≡ true }
     ensures less { IfNone result (work carry.new < work carry.old) }
 {
@@ -65,7 +66,8 @@ pub fn carry_out<N: NodeLink, C: Clock>(
     clock: &mut C,
 ) -> (CarryEnd, bool)
     requires { IsGoodAt (past hub.old) 0 reservation at_start }
-    ensures { Carried N.gives reservation (world_of hub.old nodes.old (C.view clock.old).moment) result (world_of hub.new nodes.new (C.view clock.new).moment) }
+    ensures { Carried N.gives reservation (world_of hub.old nodes.old (C.view clock.old).moment)
+        result (world_of hub.new nodes.new (C.view clock.new).moment) }
 {
     let mut carry = Carry::new(alloc, reservation);
     'turns: loop {

@@ -16,7 +16,8 @@ fn add_in<E: Made>(
     pass: &mut Pass<Counter>,
 ) -> u64
     requires own { IsOf cell.now pass.old × HasTurn pass.old turn }
-    requires value { Counts turn.value.count (view_of pass.old).seen × (turn.value.name ≡ (origin_of cell.now).name) }
+    requires value { Counts turn.value.count (view_of pass.old).seen
+        × (turn.value.name ≡ (origin_of cell.now).name) }
     requires made { E.entries ≡ next_of (view_of pass.old) ∷ [] }
     ensures own { IsOf cell.now pass.new × IsFree pass.new }
     ensures view { view_of pass.new ≡ after (next_of (view_of pass.old) ∷ []) (view_of pass.old) }
@@ -52,7 +53,9 @@ pub fn adds<R: Wait>(
     times: u64,
 ) -> Result<Pass<Counter>, Spent>
     requires own { IsOf cell.now pass × IsFree pass }
-    ensures { IfOk result (λ p. IsOf cell.entry.now p × IsFree p × (length (view_of p).mine ≡ length (view_of pass).mine + times) × ((view_of p).ended ≡ (view_of pass).ended)) }
+    ensures { IfOk result (λ p. IsOf cell.entry.now p × IsFree p
+        × (length (view_of p).mine ≡ length (view_of pass).mine + times)
+        × ((view_of p).ended ≡ (view_of pass).ended)) }
 {
     for _ in 0..times {
         add(rt, cell, &mut pass)?;

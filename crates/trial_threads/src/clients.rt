@@ -21,7 +21,8 @@ fn eight_times_a_hundred<R: Threads + Wait + Sync>(
     node: Registration,
 ) -> Option<Pass>
     requires { is_well_sized node ≡ true }
-    ensures ended { IfSome result (λ p. (length (knows p).ended ≡ 8) × EachHas 100 (knows p).ended) }
+    ensures ended { IfSome result (λ p. (length (knows p).ended ≡ 8)
+        × EachHas 100 (knows p).ended) }
     ensures mine { IfSome result (λ p. IsListing 0 node (knows p).mine) }
 {
     many_beat(rt, alloc, node, 8, 100)

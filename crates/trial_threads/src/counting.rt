@@ -15,7 +15,8 @@ use turn_cell::{Pass, TurnCell};
 
 /// Each of the eight ended passes has its hundred entries, and the pass that stays has none.
 fn eight_times_a_hundred<R: Threads + Wait + Sync>(rt: &R, alloc: Global) -> Option<Pass<Counter>>
-    ensures { IfSome result (λ p. (length (view_of p).ended ≡ 8) × EachHas 100 (view_of p).ended × ((view_of p).mine ≡ [])) }
+    ensures { IfSome result (λ p. (length (view_of p).ended ≡ 8) × EachHas 100 (view_of p).ended
+        × ((view_of p).mine ≡ [])) }
 {
     many_add(rt, alloc, 8, 100)
 }

@@ -18,7 +18,9 @@ fn another<R: Wait>(
     pass: &mut Pass<Counter>,
 ) -> Option<Pass<Counter>>
     requires { IsOf cell.now pass.old × IsFree pass.old }
-    ensures own { IsOf cell.now pass.new × IsFree pass.new × ((view_of pass.new).ended ≡ (view_of pass.old).ended) × ((view_of pass.new).mine ≡ (view_of pass.old).mine) }
+    ensures own { IsOf cell.now pass.new × IsFree pass.new
+        × ((view_of pass.new).ended ≡ (view_of pass.old).ended)
+        × ((view_of pass.new).mine ≡ (view_of pass.old).mine) }
     ensures new { IfSome result (IsNew cell.now) }
 {
     let turn = cell.enter(rt, pass).ok()?;
@@ -27,10 +29,13 @@ fn another<R: Wait>(
 
 /// Joins a pass that has made as many entries as `count`.
 fn rejoin(cell: &TurnCell<Counter>, pass: &mut Pass<Counter>, other: Pass<Counter>, count: u64)
-    requires own { IsOf cell.now pass.old × IsFree pass.old × EachHas count (view_of pass.old).ended }
+    requires own { IsOf cell.now pass.old × IsFree pass.old
+        × EachHas count (view_of pass.old).ended }
     requires other { HasMade cell.now count other }
-    ensures own { IsOf cell.now pass.new × IsFree pass.new × EachHas count (view_of pass.new).ended × IsExact (view_of pass.new) }
-    ensures more { (length (view_of pass.new).ended ≡ length (view_of pass.old).ended + 1) × ((view_of pass.new).mine ≡ (view_of pass.old).mine) }
+    ensures own { IsOf cell.now pass.new × IsFree pass.new × EachHas count (view_of pass.new).ended
+        × IsExact (view_of pass.new) }
+    ensures more { (length (view_of pass.new).ended ≡ length (view_of pass.old).ended + 1)
+        × ((view_of pass.new).mine ≡ (view_of pass.old).mine) }
 {
     cell.join(pass, other);
 }
@@ -42,8 +47,10 @@ fn split_off<R: Wait>(
     pass: &mut Pass<Counter>,
     count: usize,
 ) -> Option<Vec<Pass<Counter>>>
-    requires { IsOf cell.now pass.old × IsFree pass.old × ((view_of pass.old).ended ≡ []) × ((view_of pass.old).mine ≡ []) }
-    ensures own { IsOf cell.now pass.new × IsFree pass.new × ((view_of pass.new).ended ≡ []) × ((view_of pass.new).mine ≡ []) }
+    requires { IsOf cell.now pass.old × IsFree pass.old × ((view_of pass.old).ended ≡ [])
+        × ((view_of pass.old).mine ≡ []) }
+    ensures own { IsOf cell.now pass.new × IsFree pass.new × ((view_of pass.new).ended ≡ [])
+        × ((view_of pass.new).mine ≡ []) }
     ensures new { IfSome result (λ v. (vec_len v ≡ count) × All (IsNew cell.now) v.items) }
 {
     let mut passes = Vec::new(alloc);
@@ -59,9 +66,11 @@ fn rejoin_all(
     others: Vec<Result<Pass<Counter>, Spent>>,
     times: u64,
 ) -> Result<(), Spent>
-    requires own { IsOf cell.now pass.old × IsFree pass.old × ((view_of pass.old).ended ≡ []) × ((view_of pass.old).mine ≡ []) }
+    requires own { IsOf cell.now pass.old × IsFree pass.old × ((view_of pass.old).ended ≡ [])
+        × ((view_of pass.old).mine ≡ []) }
     requires others { All (MadeOrSpent cell.now times) others.items }
-    ensures { IfOk result (λ _. EachHas times (view_of pass.new).ended × (length (view_of pass.new).ended ≡ vec_len others) × ((view_of pass.new).mine ≡ [])) }
+    ensures { IfOk result (λ _. EachHas times (view_of pass.new).ended
+        × (length (view_of pass.new).ended ≡ vec_len others) × ((view_of pass.new).mine ≡ [])) }
 {
     for other in others {
         rejoin(cell, pass, other?, times);
@@ -77,7 +86,8 @@ fn all_add<R: Threads + Wait + Sync>(
     times: u64,
 ) -> Option<Vec<Result<Pass<Counter>, Spent>>>
     requires { All (IsNew cell.now) passes.items }
-    ensures { IfSome result (λ v. (vec_len v ≡ vec_len passes) × All (MadeOrSpent cell.entry.now times) v.items) }
+    ensures { IfSome result (λ v. (vec_len v ≡ vec_len passes)
+        × All (MadeOrSpent cell.entry.now times) v.items) }
 {
     let done = thread::map_vec(
         rt,
@@ -98,7 +108,8 @@ pub fn many_add<R: Threads + Wait + Sync>(
     count: usize,
     times: u64,
 ) -> Option<Pass<Counter>>
-    ensures { IfSome result (λ p. (length (view_of p).ended ≡ count) × EachHas times (view_of p).ended × ((view_of p).mine ≡ [])) }
+    ensures { IfSome result (λ p. (length (view_of p).ended ≡ count)
+        × EachHas times (view_of p).ended × ((view_of p).mine ≡ [])) }
 {
     let start = Counter { count: 0, name: 7 };
     let (cell, mut pass) = TurnCell::new(alloc, start, 0).ok()?;
