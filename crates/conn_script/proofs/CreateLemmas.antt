@@ -29,10 +29,10 @@ use Rattle.conn_script.specs.Responses.{Response, own, bytes_of}
 use Rattle.conn_script.specs.Messages.{enqueue_refusal, outcome_response}
 use Rattle.conn_script.specs.Build.{Responds}
 use Rattle.conn_script.specs.NewSession as rules
-use Rattle.conn_script.specs.NewSession.{Rounds, Asks, AskLacks, poll_pause}
+use Rattle.conn_script.specs.NewSession.{Rounds, Withdraws, Asks, AskLacks, poll_pause}
 use Rattle.conn_script.specs.Wanted.{Wanted, to_call, to_ask, to_pause, FitsKind, Kind}
 use Rattle.conn_script.specs.Turns.{Turns, responded, IsUnanswered}
-use Rattle.conn_script.specs.Creating.{no_start, starts, want_of, GoesOnStarting, start_ends, start_finds_spent, CreatesOn, NeverStops, AfterPause, PauseTurns, EnqueueTurns, PollTurns, paused}
+use Rattle.conn_script.specs.Creating.{no_start, starts, want_of, GoesOnStarting, start_ends, start_finds_spent, CreatesOn, NeverStops, AfterPause, PauseTurns, EnqueueTurns, PollTurns, paused, gone}
 use Rattle.conn_script.proofs.TurnLemmas.{own_turns}
 use Rattle.conn_script.proofs.ElseLemmas.{else_turns, else_enqueue, else_poll}
 use Rattle.conn_script.proofs.AnswerLemmas.{from_responds}
@@ -80,9 +80,11 @@ poll_else k answer t close f n h u at e keeps =
 
 waits_on : (u t : Ticket) (at : ℕ) (more : List Step) (response : Response) → AfterPause t more response → Rounds u (Called (Call.poll u) at (Some (Reply.not_yet t)) ∷ more) response
 waits_on u t at _ _ (paused more response p) = rules.not_yet at t p
+waits_on u t at _ _ (gone more w) = rules.left_waiting at t w
 
 tries_again : (u t : Ticket) (at : ℕ) (more : List Step) (response : Response) → t ≡ u → AfterPause t more response → Rounds u (Called (Call.poll u) at None ∷ more) response
 tries_again u t at _ _ e (paused more response p) = rules.poll_lacks at (subst (λ (v : Ticket). Rounds v more response) e p)
+tries_again u t at _ _ e (gone more w) = rules.left_lacking at (subst (λ (v : Ticket). Withdraws v more) e w)
 
 pub poll_not_yet : (k : ℕ) (t : Ticket) (close : Bool) → PollTurns k (answers.Poll (polled.NotYet t)) (turn.Go (run.Creating (creating.Pausing t)) false) close
 poll_not_yet k t close u at e keeps = ((no_start, to_pause poll_pause, (refl, refl), refl, (λ more response p. waits_on u t at more response p), (λ more p. absurd p)), refl)

@@ -7,6 +7,7 @@ use Rattle.hub_core.specs.declared.answers.Enqueued.{Enqueued}
 use Rattle.hub_core.specs.declared.answers.Polled.{Polled}
 use Rattle.hub_core.specs.declared.answers.Touching.{Touching}
 use Rattle.hub_core.specs.declared.answers.Ending.{Ending}
+use Rattle.hub_core.specs.declared.answers.Withdrawing.{Withdrawing}
 use Rattle.node_client.specs.Steps.{Called, Spent, met_want}
 use Rattle.conn_script.specs.declared.turn.Turn.{Turn}
 use Rattle.conn_script.specs.declared.turn.Run.{Run}
@@ -38,6 +39,7 @@ else_enqueue (answers.End a) f n = absurd (cc)
 else_enqueue answers.Freed f n = absurd (cc)
 else_enqueue (answers.Clear a) f n = absurd (cc)
 else_enqueue (answers.View a) f n = absurd (cc)
+else_enqueue (answers.Withdraw a) f n = absurd (cc)
 else_enqueue (answers.Spent s) f n = spent s
 else_enqueue answers.NoRoom f n = no_room f
 
@@ -56,6 +58,7 @@ else_poll (answers.End a) f n = absurd (cc)
 else_poll answers.Freed f n = absurd (cc)
 else_poll (answers.Clear a) f n = absurd (cc)
 else_poll (answers.View a) f n = absurd (cc)
+else_poll (answers.Withdraw a) f n = absurd (cc)
 else_poll (answers.Spent s) f n = spent s
 else_poll answers.NoRoom f n = no_room f
 
@@ -74,6 +77,7 @@ else_lookup (answers.End a) f n = absurd (cc)
 else_lookup answers.Freed f n = absurd (cc)
 else_lookup (answers.Clear a) f n = absurd (cc)
 else_lookup (answers.View a) f n = absurd (cc)
+else_lookup (answers.Withdraw a) f n = absurd (cc)
 else_lookup (answers.Spent s) f n = spent s
 else_lookup answers.NoRoom f n = no_room f
 
@@ -92,6 +96,7 @@ else_touch (answers.End a) f n = absurd (cc)
 else_touch answers.Freed f n = absurd (cc)
 else_touch (answers.Clear a) f n = absurd (cc)
 else_touch (answers.View a) f n = absurd (cc)
+else_touch (answers.Withdraw a) f n = absurd (cc)
 else_touch (answers.Spent s) f n = spent s
 else_touch answers.NoRoom f n = no_room f
 
@@ -110,8 +115,28 @@ else_end (answers.End a) f n = absurd (n a refl)
 else_end answers.Freed f n = absurd (cc)
 else_end (answers.Clear a) f n = absurd (cc)
 else_end (answers.View a) f n = absurd (cc)
+else_end (answers.Withdraw a) f n = absurd (cc)
 else_end (answers.Spent s) f n = spent s
 else_end answers.NoRoom f n = no_room f
+
+pub else_withdraw : (answer : HubAnswer) → FitsKind answer Kind.withdraw → ((x : Withdrawing) → answer ≢ answers.Withdraw x) → Else Kind.withdraw answer
+else_withdraw (answers.Register a) f n = absurd (cc)
+else_withdraw (answers.Beat a) f n = absurd (cc)
+else_withdraw (answers.Drain a) f n = absurd (cc)
+else_withdraw (answers.Remove a) f n = absurd (cc)
+else_withdraw (answers.Enqueue a) f n = absurd (cc)
+else_withdraw (answers.Poll a) f n = absurd (cc)
+else_withdraw (answers.Bind a) f n = absurd (cc)
+else_withdraw (answers.Fail a) f n = absurd (cc)
+else_withdraw (answers.Lookup a) f n = absurd (cc)
+else_withdraw (answers.Touch a) f n = absurd (cc)
+else_withdraw (answers.End a) f n = absurd (cc)
+else_withdraw answers.Freed f n = absurd (cc)
+else_withdraw (answers.Clear a) f n = absurd (cc)
+else_withdraw (answers.View a) f n = absurd (cc)
+else_withdraw (answers.Withdraw a) f n = absurd (n a refl)
+else_withdraw (answers.Spent s) f n = spent s
+else_withdraw answers.NoRoom f n = no_room f
 
 -- then the script is over
 pub else_turns : (G : Run → Completes → Stops → Type 0) (C : Completes) (S : Stops) (k : Kind) (call : Call) (at : ℕ) (close : Bool) (answer : HubAnswer) (t : Turn) →

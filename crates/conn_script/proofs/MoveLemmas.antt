@@ -38,9 +38,10 @@ use Rattle.conn_script.specs.Turns.{Turns, Completes, Stops}
 use Rattle.conn_script.specs.Calling.{respond_of, CallTurns, GoesNowhere}
 use Rattle.conn_script.specs.Deleting.{DeletesOn, LookupTurns, EndTurns, QuitTurns, FreeTurns, kept_response, FreesLacking}
 use Rattle.conn_script.specs.Relaying.{RelaysOn, FindTurns, TouchTurns, ExchangeTurns}
-use Rattle.conn_script.specs.Creating.{Aim, no_start, starts, aim_steps, CreatesOn, EnqueueTurns, PollTurns, PauseTurns, StartTurns, StartMoves, StartLeads, GoesOnStarting, start_ends, start_finds_spent, AfterPause, NeverStops, want_of}
+use Rattle.conn_script.specs.Creating.{Aim, no_start, starts, aim_steps, CreatesOn, EnqueueTurns, PollTurns, PauseTurns, StartTurns, StartMoves, StartLeads, GoesOnStarting, start_ends, start_finds_spent, AfterPause, gone, NeverStops, want_of}
 use Rattle.conn_script.specs.Running.{RunWants, RunFollows, RunStops, RunTurns, RunsOn, run_tokens}
-use Rattle.conn_script.specs.Moving.{IsReady, Moves}
+use Rattle.conn_script.specs.Moving.{IsReady, Moves, Leaves}
+use Rattle.conn_script.specs.declared.undoing.Undoing.TheVariants as undoing
 use Rattle.conn_script.specs.Work.{rounds_work, turn_work, RunsLess, IsOverTurn, IsBelow, QueuesLess, PollsLess, StartsLess, StartAnswersLess}
 use Rattle.conn_script.proofs.ElseLemmas.{Else, spent, no_room}
 use Rattle.conn_script.proofs.WorkLemmas.{none_below, starts_less, pause_less}
@@ -61,6 +62,7 @@ after_kept (answers.Touch a) old e = refl
 after_kept (answers.End a) old e = refl
 after_kept (answers.Clear a) old e = refl
 after_kept (answers.View a) old e = refl
+after_kept (answers.Withdraw a) old e = refl
 after_kept answers.Freed old e = refl
 after_kept (answers.Spent s) old e = absurd (cc)
 after_kept answers.NoRoom old e = refl
@@ -79,6 +81,7 @@ after_spent (answers.Touch a) old e = absurd (cc)
 after_spent (answers.End a) old e = absurd (cc)
 after_spent (answers.Clear a) old e = absurd (cc)
 after_spent (answers.View a) old e = absurd (cc)
+after_spent (answers.Withdraw a) old e = absurd (cc)
 after_spent answers.Freed old e = absurd (cc)
 after_spent (answers.Spent s) old e = refl
 after_spent answers.NoRoom old e = absurd (cc)
@@ -300,6 +303,16 @@ pause_moves u close t turns ready next = record {
   where
     no : false ≡ true → ⊥
     no e = cc
+
+-- its client has left
+pub leaves : (u : Ticket) → Leaves (run.Creating (creating.Pausing u)) (undoing.Withdraw u)
+leaves u = record {
+  fresh = refl;
+  keeps = refl;
+  leads = λ f aim w wants. (to_call (Call.withdraw u), refl, (λ more x. gone more x));
+  waits = tt;
+  less = λ before after h. omega (arith, h.0, h.1);
+}
 
 -- a start that has made these steps by now
 longer_start : (r : Reservation) (so_far made own : List Step) → Start r ((so_far ++ made) ++ own) → Start r (so_far ++ (made ++ own))

@@ -1,4 +1,4 @@
--- A script pauses only where a poll was told to wait.
+-- A script pauses only where a call was told to wait.
 use Rattle.std.proofs.Common.{◌≡◌, ℕ, Bool, true, false, ◌&&◌, List, [], ◌∷◌, ◌++◌, refl, ap}
 use Rattle.std.specs.Prelude.{Option, Some, Result, Ok, Err}
 use Rattle.http_frames.specs.Frames.{Request}
@@ -23,13 +23,15 @@ use Rattle.conn_script.specs.Responses.{Response}
 use Rattle.conn_script.specs.OneCall as one
 use Rattle.conn_script.specs.OneCall.{OneCall, NodeCall, Beats, Registers}
 use Rattle.conn_script.specs.DeleteSession as deleting
-use Rattle.conn_script.specs.DeleteSession.{AfterQuit, AfterEnd, AfterLookup, AsksWhere, DeleteSession}
+use Rattle.conn_script.specs.DeleteSession.{AfterQuit, AfterEnd, AfterLookup, AsksWhere, DeleteSession, FreesLast}
 use Rattle.conn_script.specs.Relay as relaying
 use Rattle.conn_script.specs.Relay.{AfterTouch, AfterFound, FindsNode, Relay}
 use Rattle.conn_script.specs.NewSession as creating
-use Rattle.conn_script.specs.NewSession.{SpentStart, Rounds, Asks, NewSession}
+use Rattle.conn_script.specs.NewSession.{SpentStart, Withdraws, Rounds, Asks, NewSession}
+use Rattle.conn_script.specs.Ends as ending
+use Rattle.conn_script.specs.Ends.{EndsAtNode, EndsCreated}
 use Rattle.conn_script.specs.Script.{ByRoute, Script, route}
-use Rattle.conn_script.specs.Pauses.{ends_early_behind, is_early_poll, PausesBehindPolls}
+use Rattle.conn_script.specs.Pauses.{ends_early_behind, is_early_call, PausesBehindEarlyCalls}
 
 never : false ≡ true → ⊥
 never e = cc
@@ -42,11 +44,11 @@ and_second : (a b : Bool) → (a && b) ≡ true → b ≡ true
 and_second true b e = e
 and_second false b e = absurd (never e)
 
--- ---- each pause is behind such a poll; the first step may be behind one too
+-- ---- each pause is behind such a call; the first step may be behind one too
 
 abbrev rightly : Bool → List Step → Bool
 rightly early [] = true
-rightly early (Called call at reply ∷ steps) = rightly (is_early_poll (Called call at reply)) steps
+rightly early (Called call at reply ∷ steps) = rightly (is_early_call (Called call at reply)) steps
 rightly early (Spent call at ∷ steps) = rightly false steps
 rightly early (Exchanged address ask came ∷ steps) = rightly false steps
 rightly early (Paused ms ∷ steps) = early && rightly false steps
@@ -54,7 +56,7 @@ rightly early (Paused ms ∷ steps) = early && rightly false steps
 -- up to a pause
 up_to : (early : Bool) (steps more : List Step) (ms : ℕ) → rightly early (steps ++ Paused ms ∷ more) ≡ true → ends_early_behind early steps ≡ true
 up_to early [] more ms h = and_first early (rightly false more) h
-up_to early (Called call at reply ∷ steps) more ms h = up_to (is_early_poll (Called call at reply)) steps more ms h
+up_to early (Called call at reply ∷ steps) more ms h = up_to (is_early_call (Called call at reply)) steps more ms h
 up_to early (Spent call at ∷ steps) more ms h = up_to false steps more ms h
 up_to early (Exchanged address ask came ∷ steps) more ms h = up_to false steps more ms h
 up_to early (Paused m ∷ steps) more ms h = up_to false steps more ms (and_second early (rightly false (steps ++ Paused ms ∷ more)) h)
@@ -77,14 +79,14 @@ more_rightly early (Paused ms ∷ steps) h = absurd (never h)
 
 behind : (early : Bool) (own steps : List Step) → unpaused own ≡ true → rightly false steps ≡ true → rightly early (own ++ steps) ≡ true
 behind early [] steps none h = more_rightly early steps h
-behind early (Called call at reply ∷ own) steps none h = behind (is_early_poll (Called call at reply)) own steps none h
+behind early (Called call at reply ∷ own) steps none h = behind (is_early_call (Called call at reply)) own steps none h
 behind early (Spent call at ∷ own) steps none h = behind false own steps none h
 behind early (Exchanged address ask came ∷ own) steps none h = behind false own steps none h
 behind early (Paused ms ∷ own) steps none h = absurd (never none)
 
 calm : (early : Bool) (own : List Step) → unpaused own ≡ true → rightly early own ≡ true
 calm early [] none = refl
-calm early (Called call at reply ∷ own) none = calm (is_early_poll (Called call at reply)) own none
+calm early (Called call at reply ∷ own) none = calm (is_early_call (Called call at reply)) own none
 calm early (Spent call at ∷ own) none = calm false own none
 calm early (Exchanged address ask came ∷ own) none = calm false own none
 calm early (Paused ms ∷ own) none = absurd (never none)
@@ -140,6 +142,26 @@ asks_where id _ _ (deleting.lookup_spent at) = refl
 deletes : (id : List ℕ) (steps : List Step) (response : Response) → DeleteSession id steps response → unpaused steps ≡ true
 deletes id _ _ (deleting.no_name n) = refl
 deletes id _ _ (deleting.named steps response n a) = asks_where id steps response a
+
+frees_last : (c : Closing) (steps : List Step) → FreesLast c steps → unpaused steps ≡ true
+frees_last c _ (deleting.frees at) = refl
+frees_last c _ (deleting.finds_spent at) = refl
+
+at_node : (path : List ℕ) (c : Closing) (steps : List Step) → EndsAtNode path c steps → unpaused steps ≡ true
+at_node path c _ (ending.quits {steps} what f) = frees_last c steps f
+
+ends_created : (id : List ℕ) (binding : ℕ) (steps : List Step) → EndsCreated id binding steps → unpaused steps ≡ true
+ends_created id binding _ (ending.ends {steps} at c e) = at_node _ c steps e
+ends_created id binding _ (ending.is_gone at) = refl
+ends_created id binding _ (ending.stays at) = refl
+ends_created id binding _ (ending.end_spent at) = refl
+
+withdraws : (early : Bool) (t : Ticket) (steps : List Step) → Withdraws t steps → rightly early steps ≡ true
+withdraws early _ _ (creating.is_withdrawn {t} at) = refl
+withdraws early _ _ (creating.is_held {t} {steps} at u w) = withdraws false u steps w
+withdraws early _ _ (creating.was_created {t} {steps} at session caps slot address binding e) = calm false steps (ends_created session binding steps e)
+withdraws early _ _ (creating.was_settled {t} at o n) = refl
+withdraws early _ _ (creating.withdraw_spent {t} at) = refl
 
 after_touch : (ask : Ask) (address : List ℕ) (steps : List Step) (response : Response) → AfterTouch ask address steps response → unpaused steps ≡ true
 after_touch ask address _ _ (relaying.asked came response e) = refl
@@ -197,6 +219,8 @@ module _ (spend : StartsSpendAll) where
   rounds : (t : Ticket) (steps : List Step) (response : Response) → Rounds t steps response → rightly false steps ≡ true
   rounds _ _ _ (creating.not_yet {t} {steps} {response} at u r) = rounds u steps response r
   rounds _ _ _ (creating.poll_lacks {t} {steps} {response} at r) = rounds t steps response r
+  rounds _ _ _ (creating.left_waiting {t} {steps} at u w) = withdraws true u steps w
+  rounds _ _ _ (creating.left_lacking {t} {steps} at w) = withdraws true t steps w
   rounds _ _ _ (creating.yours {t} {own} {steps} {response} at u r s rest) = behind false own steps (start_unpaused r own s) (rounds u steps response rest)
   rounds _ _ _ (creating.start_spent {t} {own} at u r s) = calm false own (start_spent r own s)
   rounds _ _ _ (creating.settled {t} at o) = refl
@@ -226,6 +250,6 @@ module _ (spend : StartsSpendAll) where
   by_route (Ok (routes.drain id)) f steps response x = calm false steps (node_call Call.drain id steps response x)
   by_route (Ok (routes.beat id)) f steps response x = calm false steps (beats id _ steps response x)
 
-  pub behind_polls : PausesBehindPolls
+  pub behind_early_calls : PausesBehindEarlyCalls
   unfolding Script
-  behind_polls f steps more ms response s = up_to false steps more ms (by_route (route f) f (steps ++ Paused ms ∷ more) response s)
+  behind_early_calls f steps more ms response s = up_to false steps more ms (by_route (route f) f (steps ++ Paused ms ∷ more) response s)

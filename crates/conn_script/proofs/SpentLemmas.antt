@@ -1,5 +1,5 @@
 -- Which of the steps of a request found the hub spent.
-use Rattle.std.proofs.Common.{◌≡◌, ℕ, ◌+◌, Bool, true, false, List, [], ◌∷◌, ◌++◌, refl, sym, ◌∙◌, ap, subst, append_assoc, append-nil, arith}
+use Rattle.std.proofs.Common.{◌≡◌, ◌≢◌, ℕ, ◌+◌, Bool, true, false, List, [], ◌∷◌, ◌++◌, refl, sym, ◌∙◌, ap, subst, append_assoc, append-nil, arith}
 use Rattle.std.specs.Prelude.{Option, None, Some, Result, Ok, Err}
 use Rattle.http_frames.specs.Frames.{Request}
 use Rattle.grid_types.specs.declared.capabilities.Cap.{Cap}
@@ -25,7 +25,7 @@ use Rattle.node_client.specs.Spending.{Spends, StartsSpendAll}
 use Rattle.node_client.specs.Start as starting
 use Rattle.node_client.specs.Start.{Start}
 use Rattle.conn_script.specs.Responses as said
-use Rattle.conn_script.specs.Responses.{Response, created, passed_on, hub_spent, is_last}
+use Rattle.conn_script.specs.Responses.{Response, created, passed_on, hub_spent, left, is_last}
 use Rattle.conn_script.specs.Messages.{register_response, node_response, clear_response, status_response, queue_response, enqueue_refusal, outcome_response}
 use Rattle.conn_script.specs.Begin as begin
 use Rattle.conn_script.specs.Begin.{AsksToEnd, Expires, Begins, Begun, ExpireLacks, BeginLacks, BegunLacks}
@@ -36,9 +36,10 @@ use Rattle.conn_script.specs.DeleteSession.{AfterQuit, AfterEnd, AfterLookup, As
 use Rattle.conn_script.specs.Relay as relaying
 use Rattle.conn_script.specs.Relay.{AfterTouch, AfterFound, FindsNode, Relay, ExchangeLacks, TouchLacks, RelayLacks, relay_response}
 use Rattle.conn_script.specs.NewSession as creating
-use Rattle.conn_script.specs.NewSession.{poll_pause, SpentStart, Rounds, Asks, NewSession, AskLacks, EnqueueLacks}
-use Rattle.conn_script.specs.Undo as undo
-use Rattle.conn_script.specs.Undo.{EndsAtNode, EndsCreated, Undoes}
+use Rattle.conn_script.specs.NewSession.{poll_pause, SpentStart, Withdraws, Rounds, Asks, NewSession, AskLacks, EnqueueLacks}
+use Rattle.conn_script.specs.Ends as ending
+use Rattle.conn_script.specs.Ends.{EndsAtNode, EndsCreated}
+use Rattle.conn_script.specs.Undo.{Undoes}
 use Rattle.conn_script.specs.Script as script
 use Rattle.conn_script.specs.Script.{ByRoute, StepLacks, Script, Lacks, route}
 use Rattle.conn_script.specs.SpentLooks.{SpentLast, FindsSpent, FindsSpentOrNot}
@@ -219,14 +220,14 @@ delete_lacks id _ (deleting.behind_lookup at slot address binding steps e) =
     or_behind (Called (Call.lookup id) at _ ∷ []) steps refl (end_lacks id binding steps e)
 
 at_node : (path : List ℕ) (c : Closing) (steps : List Step) → EndsAtNode path c steps → FindsSpentOrNot steps
-at_node path c _ (undo.quits {steps} what f) = or_behind (Exchanged c.address _ what ∷ []) steps refl (frees_last c steps f)
+at_node path c _ (ending.quits {steps} what f) = or_behind (Exchanged c.address _ what ∷ []) steps refl (frees_last c steps f)
 
 ends_created : (id : List ℕ) (binding : ℕ) (steps : List Step) → EndsCreated id binding steps → FindsSpentOrNot steps
-ends_created id binding _ (undo.ends {steps} at c e) =
+ends_created id binding _ (ending.ends {steps} at c e) =
     or_behind (Called (Call.end id binding) at (Some (Reply.ended c)) ∷ []) steps refl (at_node _ c steps e)
-ends_created id binding _ (undo.is_gone at) = (false, refl)
-ends_created id binding _ (undo.stays at) = (false, refl)
-ends_created id binding _ (undo.end_spent at) = (true, last_one [] (Call.end id binding) at refl)
+ends_created id binding _ (ending.is_gone at) = (false, refl)
+ends_created id binding _ (ending.stays at) = (false, refl)
+ends_created id binding _ (ending.end_spent at) = (true, last_one [] (Call.end id binding) at refl)
 
 nothing_done : (steps : List Step) → steps ≡ [] → FindsSpentOrNot steps
 nothing_done steps e = (false, ap spent_looks e)
@@ -236,13 +237,31 @@ undoes (created session caps binding) steps u = ends_created session binding ste
 undoes (said.own status body) steps u = nothing_done steps u
 undoes (passed_on reply) steps u = nothing_done steps u
 undoes hub_spent steps u = nothing_done steps u
+undoes left steps u = absurd u
 
 -- behind a script whose response is the last nothing is undone
 pub behind_script : (response : Response) (steps undone : List Step) → FindsSpent (is_last response) steps → Undoes response undone → FindsSpentOrNot (steps ++ undone)
 behind_script (created session caps binding) steps undone f u = or_behind steps undone f (undoes (created session caps binding) undone u)
 behind_script (said.own status body) steps undone f u = or_behind steps undone f (undoes (said.own status body) undone u)
 behind_script (passed_on reply) steps undone f u = or_behind steps undone f (undoes (passed_on reply) undone u)
+behind_script left steps undone f u = absurd u
 behind_script hub_spent steps undone f u = (true, subst SpentLast (sym (ap (λ (s : List Step). steps ++ s) u ∙ append-nil steps)) f)
+
+-- where something can be undone there is a response
+is_there : (response : Response) (undone : List Step) → Undoes response undone → response ≢ left
+is_there response undone u e = subst (λ (r : Response). Undoes r undone) e u
+
+-- ---- a withdrawal
+
+withdraws : (t : Ticket) (steps : List Step) → Withdraws t steps → FindsSpentOrNot steps
+withdraws _ _ (creating.is_withdrawn {t} at) = (false, refl)
+withdraws _ _ (creating.is_held {t} {steps} at u w) =
+    or_behind (Called (Call.withdraw t) at (Some (Reply.not_yet u)) ∷ Paused poll_pause ∷ []) steps refl (withdraws u steps w)
+withdraws _ _ (creating.was_created {t} {steps} at session caps slot address binding e) =
+    or_behind (Called (Call.withdraw t) at (Some (Reply.settled (outcome.Created session caps slot address binding))) ∷ []) steps refl
+    (ends_created session binding steps e)
+withdraws _ _ (creating.was_settled {t} at o n) = (false, refl)
+withdraws _ _ (creating.withdraw_spent {t} at) = (true, last_one [] (Call.withdraw t) at refl)
 
 -- ---- a relay
 
@@ -343,45 +362,80 @@ module _ (spend : StartsSpendAll) where
 
   -- ---- a New Session
 
-  rounds : (t : Ticket) (steps : List Step) (response : Response) → Rounds t steps response → FindsSpent (is_last response) steps
-  rounds _ _ _ (creating.not_yet {t} {steps} {response} at u r) =
-      behind (is_last response) (Called (Call.poll t) at (Some (Reply.not_yet u)) ∷ Paused poll_pause ∷ []) steps refl (rounds u steps response r)
-  rounds _ _ _ (creating.poll_lacks {t} {steps} {response} at r) =
-      behind (is_last response) (Called (Call.poll t) at None ∷ Paused poll_pause ∷ []) steps refl (rounds t steps response r)
-  rounds _ _ _ (creating.yours {t} {own} {steps} {response} at u r s rest) =
-      behind (is_last response) (Called (Call.poll t) at (Some (Reply.yours u r)) ∷ own) steps (start_none r own s) (rounds u steps response rest)
-  rounds _ _ _ (creating.start_spent {t} {own} at u r s) = behind true (Called (Call.poll t) at (Some (Reply.yours u r)) ∷ []) own refl (start_spent r own s)
-  rounds _ _ _ (creating.settled {t} at o) = finds (is_last (outcome_response t.request o)) false _ (outcome_goes_on t.request o) refl
-  rounds _ _ _ (creating.poll_spent {t} at) = last_one [] (Call.poll t) at refl
+  rounds : (t : Ticket) (steps : List Step) (response : Response) → Rounds t steps response → response ≢ left → FindsSpent (is_last response) steps
+  rounds _ _ _ (creating.not_yet {t} {steps} {response} at u r) n =
+      behind (is_last response) (Called (Call.poll t) at (Some (Reply.not_yet u)) ∷ Paused poll_pause ∷ []) steps refl (rounds u steps response r n)
+  rounds _ _ _ (creating.poll_lacks {t} {steps} {response} at r) n =
+      behind (is_last response) (Called (Call.poll t) at None ∷ Paused poll_pause ∷ []) steps refl (rounds t steps response r n)
+  rounds _ _ _ (creating.left_waiting at u w) n = absurd (n refl)
+  rounds _ _ _ (creating.left_lacking at w) n = absurd (n refl)
+  rounds _ _ _ (creating.yours {t} {own} {steps} {response} at u r s rest) n =
+      behind (is_last response) (Called (Call.poll t) at (Some (Reply.yours u r)) ∷ own) steps (start_none r own s) (rounds u steps response rest n)
+  rounds _ _ _ (creating.start_spent {t} {own} at u r s) n = behind true (Called (Call.poll t) at (Some (Reply.yours u r)) ∷ []) own refl (start_spent r own s)
+  rounds _ _ _ (creating.settled {t} at o) n = finds (is_last (outcome_response t.request o)) false _ (outcome_goes_on t.request o) refl
+  rounds _ _ _ (creating.poll_spent {t} at) n = last_one [] (Call.poll t) at refl
 
-  asks : (choices : List (List Cap)) (steps : List Step) (response : Response) → Asks choices steps response → FindsSpent (is_last response) steps
-  asks choices _ _ (creating.queued {steps} {response} at t r) =
-      behind (is_last response) (Called (Call.enqueue choices) at (Some (Reply.queued t)) ∷ []) steps refl (rounds t steps response r)
-  asks choices _ _ (creating.not_queued at reply response e) = finds (is_last response) false _ (refusal_goes_on reply response e) refl
-  asks choices _ _ (creating.enqueue_spent at) = last_one [] (Call.enqueue choices) at refl
+  asks : (choices : List (List Cap)) (steps : List Step) (response : Response) → Asks choices steps response → response ≢ left → FindsSpent (is_last response) steps
+  asks choices _ _ (creating.queued {steps} {response} at t r) n =
+      behind (is_last response) (Called (Call.enqueue choices) at (Some (Reply.queued t)) ∷ []) steps refl (rounds t steps response r n)
+  asks choices _ _ (creating.not_queued at reply response e) n = finds (is_last response) false _ (refusal_goes_on reply response e) refl
+  asks choices _ _ (creating.enqueue_spent at) n = last_one [] (Call.enqueue choices) at refl
 
-  creates : (body : List ℕ) (steps : List Step) (response : Response) → NewSession body steps response → FindsSpent (is_last response) steps
-  creates body _ _ (creating.no_choices f gives) = refl
-  creates body _ _ (creating.asks {steps} {response} choices gives a) = asks choices steps response a
+  creates : (body : List ℕ) (steps : List Step) (response : Response) → NewSession body steps response → response ≢ left → FindsSpent (is_last response) steps
+  creates body _ _ (creating.no_choices f gives) n = refl
+  creates body _ _ (creating.asks {steps} {response} choices gives a) n = asks choices steps response a n
 
-  by_route : (r : Result Route RouteFault) (f : Request) (steps : List Step) (response : Response) → ByRoute r f steps response → FindsSpent (is_last response) steps
-  by_route (Err fault.UnknownCommand) f steps response x = finds (is_last response) false steps (ap is_last x.1) (ap spent_looks x.0)
-  by_route (Err fault.UnknownMethod) f steps response x = finds (is_last response) false steps (ap is_last x.1) (ap spent_looks x.0)
-  by_route (Err fault.Memory) f steps response x = absurd x
-  by_route (Ok routes.new_session) f steps response x = creates _ steps response x
-  by_route (Ok (routes.delete_session id)) f steps response x = deletes id steps response x
-  by_route (Ok (routes.relay id target)) f steps response x = relays _ id steps response x
-  by_route (Ok routes.status) f steps response x = one_call Call.view status_response status_goes_on steps response x
-  by_route (Ok routes.queue) f steps response x = one_call Call.view queue_response queue_goes_on steps response x
-  by_route (Ok routes.clear_queue) f steps response x = one_call Call.clear clear_response clear_goes_on steps response x
-  by_route (Ok routes.register) f steps response x = registers _ steps response x
-  by_route (Ok (routes.remove id)) f steps response x = node_call Call.remove id steps response x
-  by_route (Ok (routes.drain id)) f steps response x = node_call Call.drain id steps response x
-  by_route (Ok (routes.beat id)) f steps response x = beats id _ steps response x
+  -- whether its client has left or not
+  rounds_any : (t : Ticket) (steps : List Step) (response : Response) → Rounds t steps response → FindsSpentOrNot steps
+  rounds_any _ _ _ (creating.not_yet {t} {steps} {response} at u r) =
+      or_behind (Called (Call.poll t) at (Some (Reply.not_yet u)) ∷ Paused poll_pause ∷ []) steps refl (rounds_any u steps response r)
+  rounds_any _ _ _ (creating.poll_lacks {t} {steps} {response} at r) =
+      or_behind (Called (Call.poll t) at None ∷ Paused poll_pause ∷ []) steps refl (rounds_any t steps response r)
+  rounds_any _ _ _ (creating.left_waiting {t} {steps} at u w) = or_behind (Called (Call.poll t) at (Some (Reply.not_yet u)) ∷ []) steps refl (withdraws u steps w)
+  rounds_any _ _ _ (creating.left_lacking {t} {steps} at w) = or_behind (Called (Call.poll t) at None ∷ []) steps refl (withdraws t steps w)
+  rounds_any _ _ _ (creating.yours {t} {own} {steps} {response} at u r s rest) =
+      or_behind (Called (Call.poll t) at (Some (Reply.yours u r)) ∷ own) steps (start_none r own s) (rounds_any u steps response rest)
+  rounds_any _ _ _ (creating.start_spent {t} {own} at u r s) =
+      (true, behind true (Called (Call.poll t) at (Some (Reply.yours u r)) ∷ []) own refl (start_spent r own s))
+  rounds_any _ _ _ (creating.settled {t} at o) = (false, refl)
+  rounds_any _ _ _ (creating.poll_spent {t} at) = (true, last_one [] (Call.poll t) at refl)
 
-  pub in_script : (f : Request) (steps : List Step) (response : Response) → Script f steps response → FindsSpent (is_last response) steps
+  asks_any : (choices : List (List Cap)) (steps : List Step) (response : Response) → Asks choices steps response → FindsSpentOrNot steps
+  asks_any choices _ _ (creating.queued {steps} {response} at t r) =
+      or_behind (Called (Call.enqueue choices) at (Some (Reply.queued t)) ∷ []) steps refl (rounds_any t steps response r)
+  asks_any choices _ _ (creating.not_queued at reply response e) = (false, refl)
+  asks_any choices _ _ (creating.enqueue_spent at) = (true, last_one [] (Call.enqueue choices) at refl)
+
+  creates_any : (body : List ℕ) (steps : List Step) (response : Response) → NewSession body steps response → FindsSpentOrNot steps
+  creates_any body _ _ (creating.no_choices f gives) = (false, refl)
+  creates_any body _ _ (creating.asks {steps} {response} choices gives a) = asks_any choices steps response a
+
+  -- what holds of a New Session, and of each script that is no New Session
+  by_route : (P : List Step → Response → Type 0) → ((body : List ℕ) (steps : List Step) (response : Response) → NewSession body steps response → P steps response) →
+      ((steps : List Step) (response : Response) → FindsSpent (is_last response) steps → P steps response) →
+      (r : Result Route RouteFault) (f : Request) (steps : List Step) (response : Response) → ByRoute r f steps response → P steps response
+  by_route P new other (Err fault.UnknownCommand) f steps response x = other steps response (finds (is_last response) false steps (ap is_last x.1) (ap spent_looks x.0))
+  by_route P new other (Err fault.UnknownMethod) f steps response x = other steps response (finds (is_last response) false steps (ap is_last x.1) (ap spent_looks x.0))
+  by_route P new other (Err fault.Memory) f steps response x = absurd x
+  by_route P new other (Ok routes.new_session) f steps response x = new _ steps response x
+  by_route P new other (Ok (routes.delete_session id)) f steps response x = other steps response (deletes id steps response x)
+  by_route P new other (Ok (routes.relay id target)) f steps response x = other steps response (relays _ id steps response x)
+  by_route P new other (Ok routes.status) f steps response x = other steps response (one_call Call.view status_response status_goes_on steps response x)
+  by_route P new other (Ok routes.queue) f steps response x = other steps response (one_call Call.view queue_response queue_goes_on steps response x)
+  by_route P new other (Ok routes.clear_queue) f steps response x = other steps response (one_call Call.clear clear_response clear_goes_on steps response x)
+  by_route P new other (Ok routes.register) f steps response x = other steps response (registers _ steps response x)
+  by_route P new other (Ok (routes.remove id)) f steps response x = other steps response (node_call Call.remove id steps response x)
+  by_route P new other (Ok (routes.drain id)) f steps response x = other steps response (node_call Call.drain id steps response x)
+  by_route P new other (Ok (routes.beat id)) f steps response x = other steps response (beats id _ steps response x)
+
+  pub in_script : (f : Request) (steps : List Step) (response : Response) → Script f steps response → response ≢ left → FindsSpent (is_last response) steps
   unfolding Script
-  in_script f steps response s = by_route (route f) f steps response s
+  in_script f steps response s n =
+      by_route (λ own said. said ≢ left → FindsSpent (is_last said) own) creates (λ own said x m. x) (route f) f steps response s n
+
+  pub in_left : (f : Request) (steps : List Step) → Script f steps left → FindsSpentOrNot steps
+  unfolding Script
+  in_left f steps s = by_route (λ own said. FindsSpentOrNot own) creates_any (λ own said x. (is_last said, x)) (route f) f steps left s
 
   step_lacks : (r : Result Route RouteFault) (f : Request) (steps : List Step) → StepLacks r f steps → FindsSpentOrNot steps
   step_lacks (Err e) f steps x = absurd x
@@ -399,4 +453,5 @@ module _ (spend : StartsSpendAll) where
   pub in_lacks : (f : Request) (steps : List Step) → Lacks f steps → FindsSpentOrNot steps
   in_lacks f _ script.before_all = (false, refl)
   in_lacks f _ (script.at_step {steps} x) = step_lacks (route f) f steps x
-  in_lacks f _ (script.behind_all steps undone response s u) = behind_script response steps undone (in_script f steps response s) u
+  in_lacks f _ (script.behind_all steps undone response s u) =
+      behind_script response steps undone (in_script f steps response s (is_there response undone u)) u

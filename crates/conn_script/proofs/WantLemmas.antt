@@ -119,10 +119,14 @@ start_asks carry (carried.Done e) fresh x n m = absurd (n e refl)
 
 -- ---- the end of a session
 
-pub undo_asks : (u : Undoing) → undo_goes_on u ≡ true → ((c : Closing) (path : SessionPath) → ¬ (u ≡ undo.Quit c path)) → UndoAsksFor u wants.Hub
-undo_asks (undo.End s b) goes n = record { readies = (Kind.end, refl); of_script = tt; shows = λ w x. calls w (Call.end s b) x }
-undo_asks (undo.Free c) goes n = record { readies = (Kind.freed, refl); of_script = tt; shows = λ w x. calls w (Call.freed c) x }
-undo_asks (undo.Quit c path) goes n = absurd (n c path refl)
-undo_asks (undo.Ending s b) goes n = absurd cc
-undo_asks undo.Freeing goes n = absurd cc
-undo_asks undo.Over goes n = absurd cc
+pub undo_asks : (u : Undoing) → undo_goes_on u ≡ true → ((t : Ticket) → ¬ (u ≡ undo.Waiting t)) → ((c : Closing) (path : SessionPath) → ¬ (u ≡ undo.Quit c path)) →
+    UndoAsksFor u wants.Hub
+undo_asks (undo.Withdraw t) goes m n = record { readies = (Kind.withdraw, refl); of_script = tt; shows = λ w x. calls w (Call.withdraw t) x }
+undo_asks undo.Withdrawing goes m n = absurd cc
+undo_asks (undo.Waiting t) goes m n = absurd (m t refl)
+undo_asks (undo.End s b) goes m n = record { readies = (Kind.end, refl); of_script = tt; shows = λ w x. calls w (Call.end s b) x }
+undo_asks (undo.Free c) goes m n = record { readies = (Kind.freed, refl); of_script = tt; shows = λ w x. calls w (Call.freed c) x }
+undo_asks (undo.Quit c path) goes m n = absurd (n c path refl)
+undo_asks (undo.Ending s b) goes m n = absurd cc
+undo_asks undo.Freeing goes m n = absurd cc
+undo_asks undo.Over goes m n = absurd cc

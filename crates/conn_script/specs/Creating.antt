@@ -22,8 +22,8 @@ use Rattle.conn_script.specs.declared.turn.Run.{Run}
 use Rattle.conn_script.specs.declared.turn.Run.TheVariants as run
 use Rattle.conn_script.specs.declared.wants.HubAnswer.{HubAnswer}
 use Rattle.conn_script.specs.declared.wants.HubAnswer.TheVariants as answers
-use Rattle.conn_script.specs.Responses.{Response, hub_spent, spent_text}
-use Rattle.conn_script.specs.NewSession.{Rounds, SpentStart, Asks, AskLacks, poll_pause}
+use Rattle.conn_script.specs.Responses.{Response, hub_spent, left, spent_text}
+use Rattle.conn_script.specs.NewSession.{Rounds, Withdraws, SpentStart, Asks, AskLacks, poll_pause}
 use Rattle.conn_script.specs.Wanted.{Wanted, to_call, to_ask, to_pause, call_step, FitsKind, Keeps, Kind, kind_of}
 use Rattle.conn_script.specs.Turns.{Turns, Completes, Stops}
 
@@ -90,8 +90,10 @@ abbrev pub PolledFollows : Wanted → List Step → Response → Type 0
 PolledFollows (to_call (Call.poll t)) more response = Rounds t more response
 PolledFollows w more response = ⊥
 
+-- the end of the pause, or a client that left in place of it
 pub data AfterPause (t : Ticket) : List Step → Response → Type 0 where
   paused : (more : List Step) (response : Response) → Rounds t more response → AfterPause t (Paused poll_pause ∷ more) response
+  gone : (more : List Step) → Withdraws t more → AfterPause t more left
 
 abbrev pub StartFollows : Ticket → Aim → List Step → Response → Type 0
 StartFollows t no_start more response = ⊥

@@ -4,6 +4,7 @@ pub mod Build
 pub mod OneCall
 pub mod DeleteSession
 pub mod Relay
+pub mod Ends
 pub mod NewSession
 pub mod Undo
 pub mod Script

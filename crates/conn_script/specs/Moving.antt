@@ -28,7 +28,10 @@ use Rattle.grid_types.specs.Tokens.{Reservation}
 use Rattle.grid_outside.specs.Exchanges.{ask_of}
 use Rattle.node_client.specs.Places.{Place, wanted_at}
 use Rattle.conn_script.specs.Relay.{relayed}
-use Rattle.conn_script.specs.Work.{RunsLess}
+use Rattle.conn_script.specs.Work.{RunsLess, LeavesLittle}
+use Rattle.conn_script.specs.Responses.{left}
+use Rattle.conn_script.specs.declared.undoing.Undoing.{Undoing}
+use Rattle.conn_script.specs.Undo.{UndoLeads, WaitsBehind, undo_goes_on, undo_tokens}
 use Rattle.conn_script.specs.Running.{RunWants, RunFollows, RunStops, RunTurns, run_tokens, run_awaits, run_held, start_awaits, start_held}
 
 -- ---- what a run that goes on may be asked, and which tokens it holds
@@ -89,6 +92,16 @@ pub record Moves (old : Run) (answer : Answer) (close : Bool) (next : Turn) : Ty
       Made own answer w made →
       RunTurns f (aim_steps aim) (λ more response. RunFollows f old aim w more response) (λ more. RunStops f old w more) made close next
   pub less : RunsLess old answer next
+
+-- The client has left while its New Session waits: what is done then holds the ticket, and with it the script is one without a
+-- response.
+pub record Leaves (old : Run) (next : Undoing) : Type 0 where
+  pub fresh : undo_goes_on next ≡ true
+  pub keeps : undo_tokens next ≡ run_tokens old
+  pub leads : (f : Request) (aim : Aim) (w : Wanted) → RunWants f old aim w →
+      UndoLeads next (λ more. RunFollows f old aim w more left)
+  pub waits : WaitsBehind next []
+  pub less : LeavesLittle old next
 
 -- what is wanted, for the request under way
 pub record AsksFor (r : Run) (whole : Whole) (want : Want) : Type 0 where

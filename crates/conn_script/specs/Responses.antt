@@ -13,12 +13,13 @@ use Rattle.wd_bodies.specs.Codes.{code_status}
 use Rattle.wd_bodies.specs.Bodies.{created_bytes, error_bytes, value_bytes}
 
 -- what a request is answered with: a session that was created, under the number of its binding; another body of the hub;
--- what a node replied; or that the hub is spent, after which the connection ends
+-- what a node replied; that the hub is spent, after which the connection ends; or nothing, since the client has left
 pub data Response : Type 0 where
   created : (session : List ℕ) (caps : List Cap) (binding : ℕ) → Response
   own : (status : ℕ) (body : List ℕ) → Response
   passed_on : NodeReply → Response
   hub_spent : Response
+  left : Response
 
 -- a success whose value is this JSON
 abbrev pub success : List ℕ → Response
@@ -27,8 +28,10 @@ success json = own 200 (value_bytes json)
 abbrev pub failure : ErrorCode → List ℕ → Response
 failure code message = own (code_status code) (error_bytes code message)
 
+-- the connection ends with it, whatever the request asks for
 abbrev pub is_last : Response → Bool
 is_last hub_spent = true
+is_last left = true
 is_last response = false
 
 -- a header line, where there is a value
@@ -72,6 +75,7 @@ bytes_of (created session caps binding) close = json_text 200 (created_bytes ses
 bytes_of (own status body) close = json_text status body close
 bytes_of (passed_on r) close = passed_text r close
 bytes_of hub_spent close = spent_text
+bytes_of left close = []
 
 -- the interim response to a client that waits with its body (RFC 9110 §15.2.1)
 abbrev pub continue_text : Bool → List ℕ

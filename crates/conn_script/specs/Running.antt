@@ -16,7 +16,7 @@ use Rattle.conn_script.specs.declared.turn.Run.TheVariants as run
 use Rattle.conn_script.specs.declared.wants.HubCall.{HubCall}
 use Rattle.conn_script.specs.Responses.{Response, created, hub_spent, bytes_of, is_last, spent_text}
 use Rattle.conn_script.specs.OneCall.{OneCall, CallLacks}
-use Rattle.conn_script.specs.Wanted.{Wanted, to_call, Kind, kind_of, call_of, is_rightful, call_tokens, Awaited, answer_to, came, pause_end, nothing}
+use Rattle.conn_script.specs.Wanted.{Wanted, to_call, Kind, kind_of, call_of, is_rightful, call_tokens, Awaited, answer_to, came, wait_end, nothing}
 use Rattle.conn_script.specs.Turns.{Completes, Stops}
 use Rattle.conn_script.specs.Calling.{kind_asked, respond_of}
 use Rattle.conn_script.specs.Deleting.{DeleteWants, DeleteFollows, DeleteStops}
@@ -148,7 +148,7 @@ start_awaits (Some k) = answer_to (kind_in k)
 abbrev pub create_awaits : Creating → Awaited
 create_awaits creating.Enqueuing = answer_to Kind.enqueue
 create_awaits (creating.Polling n) = answer_to Kind.poll
-create_awaits (creating.Pausing t) = pause_end
+create_awaits (creating.Pausing t) = wait_end
 create_awaits (creating.Starting t carry) = start_awaits (awaited carry)
 create_awaits c = nothing
 

@@ -6,9 +6,11 @@ use Rattle.hub_core.specs.declared.answers.Enqueued.{Enqueued}
 use Rattle.hub_core.specs.declared.answers.Enqueued.TheVariants as enqueued
 use Rattle.hub_core.specs.declared.answers.Polled.{Polled}
 use Rattle.hub_core.specs.declared.answers.Polled.TheVariants as polled
+use Rattle.hub_core.specs.declared.answers.Withdrawing.{Withdrawing}
+use Rattle.hub_core.specs.declared.answers.Withdrawing.TheVariants as withdrawing
 use Rattle.hub_core.specs.declared.answers.Ending.{Ending}
 use Rattle.hub_core.specs.declared.answers.Ending.TheVariants as ending
-use Rattle.hub_core.specs.Replies.{registering_reply, beating_reply, draining_reply, removal_reply, enqueued_reply, polled_reply, binding_reply, failing_reply, touching_reply, ending_reply, viewed_reply, KeepsRegistration, KeepsTicket, KeepsReservation}
+use Rattle.hub_core.specs.Replies.{registering_reply, beating_reply, draining_reply, removal_reply, enqueued_reply, polled_reply, withdrawing_reply, binding_reply, failing_reply, touching_reply, ending_reply, viewed_reply, KeepsRegistration, KeepsTicket, KeepsReservation}
 use Rattle.grid_outside.specs.declared.exchange.Ask.{Ask}
 use Rattle.grid_outside.specs.Exchanges.{ask_of}
 use Rattle.node_client.specs.Held.{Token, of_ticket, of_reservation, of_closing, binding_tokens}
@@ -36,6 +38,7 @@ call_of (calls.Drain node) = Call.drain node
 call_of (calls.Remove node) = Call.remove node
 call_of (calls.Enqueue choices) = Call.enqueue choices
 call_of (calls.Poll t) = Call.poll t
+call_of (calls.Withdraw t) = Call.withdraw t
 call_of (calls.Bind r session caps) = Call.bind r session caps
 call_of (calls.Fail r why) = Call.fail r why
 call_of (calls.Lookup session) = Call.lookup session
@@ -53,7 +56,7 @@ is_rightful call = true
 
 -- which call an answer belongs to
 pub data Kind : Type 0 where
-  register beat drain remove enqueue poll bind fail lookup touch end freed clear view other : Kind
+  register beat drain remove enqueue poll withdraw bind fail lookup touch end freed clear view other : Kind
 
 abbrev pub kind_of : Call → Kind
 kind_of (Call.register node) = Kind.register
@@ -62,6 +65,7 @@ kind_of (Call.drain node) = Kind.drain
 kind_of (Call.remove node) = Kind.remove
 kind_of (Call.enqueue choices) = Kind.enqueue
 kind_of (Call.poll t) = Kind.poll
+kind_of (Call.withdraw t) = Kind.withdraw
 kind_of Call.dispatch = Kind.other
 kind_of (Call.bind r session caps) = Kind.bind
 kind_of (Call.fail r why) = Kind.fail
@@ -92,6 +96,7 @@ FitsKind (answers.Drain a) k = k ≡ Kind.drain
 FitsKind (answers.Remove a) k = k ≡ Kind.remove
 FitsKind (answers.Enqueue a) k = k ≡ Kind.enqueue
 FitsKind (answers.Poll a) k = k ≡ Kind.poll
+FitsKind (answers.Withdraw a) k = k ≡ Kind.withdraw
 FitsKind (answers.Bind a) k = k ≡ Kind.bind
 FitsKind (answers.Fail a) k = k ≡ Kind.fail
 FitsKind (answers.Lookup a) k = k ≡ Kind.lookup
@@ -118,6 +123,7 @@ reply_of (answers.Drain a) = draining_reply a
 reply_of (answers.Remove a) = removal_reply a
 reply_of (answers.Enqueue a) = enqueued_reply a
 reply_of (answers.Poll a) = polled_reply a
+reply_of (answers.Withdraw a) = withdrawing_reply a
 reply_of (answers.Bind a) = binding_reply a
 reply_of (answers.Fail a) = failing_reply a
 reply_of (answers.Lookup found) = Some (Reply.found found)
@@ -143,6 +149,7 @@ call_step answer call at = Called call at (reply_of answer)
 -- the tokens that a call hands in
 abbrev pub call_tokens : Call → List Token
 call_tokens (Call.poll t) = of_ticket t ∷ []
+call_tokens (Call.withdraw t) = of_ticket t ∷ []
 call_tokens (Call.bind r session caps) = of_reservation r ∷ []
 call_tokens (Call.fail r why) = of_reservation r ∷ []
 call_tokens (Call.freed c) = of_closing c ∷ []
@@ -158,6 +165,11 @@ polled_tokens (polled.Yours t r) = of_reservation r ∷ of_ticket t ∷ []
 polled_tokens (polled.Settled o) = []
 polled_tokens (polled.Memory t) = of_ticket t ∷ []
 
+abbrev pub withdrawing_tokens : Withdrawing → List Token
+withdrawing_tokens withdrawing.Withdrawn = []
+withdrawing_tokens (withdrawing.Settled o) = []
+withdrawing_tokens (withdrawing.NotYet t) = of_ticket t ∷ []
+
 abbrev pub ending_tokens : Ending → List Token
 ending_tokens (ending.Ended c) = of_closing c ∷ []
 ending_tokens ending.NoSession = []
@@ -166,6 +178,7 @@ ending_tokens ending.NoSession = []
 abbrev pub answer_tokens : HubAnswer → List Token
 answer_tokens (answers.Enqueue a) = enqueued_tokens a
 answer_tokens (answers.Poll a) = polled_tokens a
+answer_tokens (answers.Withdraw a) = withdrawing_tokens a
 answer_tokens (answers.Bind a) = binding_tokens a
 answer_tokens (answers.End a) = ending_tokens a
 answer_tokens answer = []
@@ -212,7 +225,7 @@ IsScriptWant (wants.Node address request) = Unit {0}
 IsScriptWant (wants.Pause ms) = Unit {0}
 IsScriptWant want = ⊥
 
--- what kind of answer may be fed
+-- what kind of answer may be fed; a pause at whose end a waiting request is polled again is a wait
 pub data Awaited : Type 0 where
   piece : (most : ℕ) → Awaited
   count : (most : ℕ) → Awaited
@@ -220,9 +233,15 @@ pub data Awaited : Type 0 where
   answer_to : (kind : Kind) → Awaited
   came : Awaited
   pause_end : Awaited
+  wait_end : Awaited
   nothing : Awaited
 
--- an answer of that kind
+-- it is the end of a wait that is awaited
+abbrev pub is_wait : Awaited → Bool
+is_wait wait_end = true
+is_wait due = false
+
+-- An answer of that kind. Only where it waits may a client be told to have left.
 abbrev pub IsAwaited : Answer → Awaited → Type 0
 IsAwaited (told.Bytes bytes) (piece most) = length bytes.now ≤ most
 IsAwaited told.EndOfInput (piece most) = Unit {0}
@@ -233,17 +252,19 @@ IsAwaited told.Begun begun = Unit {0}
 IsAwaited (told.Hub answer) (answer_to kind) = FitsKind answer kind
 IsAwaited (told.Node result) came = Unit {0}
 IsAwaited told.Paused pause_end = Unit {0}
-IsAwaited answer awaited = ⊥
+IsAwaited told.Paused wait_end = Unit {0}
+IsAwaited told.Gone due = is_wait due ≡ true
+IsAwaited answer due = ⊥
 
 -- what may be done after a want: the answer to it may be fed, or the call of that kind taken
 abbrev pub Readies : Want → Awaited → Option Kind → Type 0
-Readies (wants.Read most) awaited held = awaited ≡ piece most
-Readies (wants.Write unsent) awaited held = awaited ≡ count (length unsent.now)
-Readies wants.Begin awaited held = awaited ≡ begun
-Readies wants.Hub awaited held = (kind : Kind) × (held ≡ Some kind)
-Readies (wants.Node address request) awaited held = awaited ≡ came
-Readies (wants.Pause ms) awaited held = awaited ≡ pause_end
-Readies (wants.Done result) awaited held = Unit {0}
+Readies (wants.Read most) due held = due ≡ piece most
+Readies (wants.Write unsent) due held = due ≡ count (length unsent.now)
+Readies wants.Begin due held = due ≡ begun
+Readies wants.Hub due held = (kind : Kind) × (held ≡ Some kind)
+Readies (wants.Node address request) due held = due ≡ came
+Readies (wants.Pause ms) due held = IsAwaited told.Paused due
+Readies (wants.Done result) due held = Unit {0}
 
 -- ---- what an answer to a want adds
 

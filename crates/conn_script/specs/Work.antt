@@ -4,6 +4,8 @@ use Rattle.hub_core.specs.declared.answers.Enqueued.{Enqueued}
 use Rattle.hub_core.specs.declared.answers.Enqueued.TheVariants as enqueued
 use Rattle.hub_core.specs.declared.answers.Polled.{Polled}
 use Rattle.hub_core.specs.declared.answers.Polled.TheVariants as polled
+use Rattle.hub_core.specs.declared.answers.Withdrawing.{Withdrawing}
+use Rattle.hub_core.specs.declared.answers.Withdrawing.TheVariants as withdrawing
 use Rattle.node_client.specs.declared.carry.Carry.{Carry}
 use Rattle.node_client.specs.Carrying.{work}
 use Rattle.conn_script.specs.declared.deleting.Deleting.{Deleting}
@@ -89,13 +91,17 @@ abbrev pub turn_work : Turn → Outlook → ℕ
 turn_work (turn.Go next short) o = run_work next o
 turn_work t o = 0
 
-abbrev pub undo_work : Undoing → ℕ
-undo_work (undoing.End s b) = 3
-undo_work (undoing.Ending s b) = 3
-undo_work (undoing.Quit c path) = 2
-undo_work (undoing.Free c) = 1
-undo_work undoing.Freeing = 1
-undo_work undoing.Over = 0
+-- Each pause is one answer and the withdrawal behind it, and after the last one a session may be ended.
+abbrev pub undo_work : Undoing → Outlook → ℕ
+undo_work (undoing.Withdraw t) o = 2 * o.pauses + 5
+undo_work undoing.Withdrawing o = 2 * o.pauses + 5
+undo_work (undoing.Waiting t) o = 2 * o.pauses + 4
+undo_work (undoing.End s b) o = 3
+undo_work (undoing.Ending s b) o = 3
+undo_work (undoing.Quit c path) o = 2
+undo_work (undoing.Free c) o = 1
+undo_work undoing.Freeing o = 1
+undo_work undoing.Over o = 0
 
 -- ---- what an answer has to do to the outlook
 
@@ -110,9 +116,14 @@ PollLowers (polled.Memory t) before after = NoMore before after
 PollLowers (polled.Yours t r) before after = FewerStarts before after
 PollLowers (polled.Settled o) before after = Unit {0}
 
+abbrev pub WithdrawLowers : Withdrawing → (before after : Outlook) → Type 0
+WithdrawLowers (withdrawing.NotYet t) before after = NoMore before after
+WithdrawLowers answer before after = Unit {0}
+
 abbrev pub HubLowers : HubAnswer → (before after : Outlook) → Type 0
 HubLowers (answers.Enqueue a) before after = QueueLowers a after
 HubLowers (answers.Poll a) before after = PollLowers a before after
+HubLowers (answers.Withdraw a) before after = WithdrawLowers a before after
 HubLowers (answers.Bind a) before after = NoMore before after
 HubLowers (answers.Fail a) before after = NoMore before after
 HubLowers answers.Freed before after = NoMore before after
@@ -126,6 +137,7 @@ Lowers (told.Wrote n) before after = 0 < n
 Lowers (told.Hub answer) before after = HubLowers answer before after
 Lowers (told.Node came) before after = NoMore before after
 Lowers told.Paused before after = FewerPauses before after
+Lowers told.Gone before after = NoMore before after
 Lowers answer before after = Unit {0}
 
 -- ---- what an answer does
@@ -153,6 +165,22 @@ StartAnswersLess carry answer t = (before after : Outlook) → HubLowers answer 
 -- less is left than before
 abbrev pub RunsLess : Run → Answer → Turn → Type 0
 RunsLess old answer t = (before after : Outlook) → Lowers answer before after → turn_work t after < run_work old before
+
+-- what is left to do after a request is given up, or for a session that is ended
+abbrev pub UndoesLess : Undoing → Answer → Undoing → Type 0
+UndoesLess old answer next = (before after : Outlook) → Lowers answer before after → undo_work next after < undo_work old before
+
+-- whatever the outlook, less than so much is left
+abbrev pub UndoesBelow : ℕ → Undoing → Type 0
+UndoesBelow n next = (o : Outlook) → undo_work next o < n
+
+-- behind a withdrawal
+abbrev pub WithdrawsLess : HubAnswer → Undoing → Type 0
+WithdrawsLess answer next = (before after : Outlook) → HubLowers answer before after → undo_work next after < 2 * before.pauses + 5
+
+-- a New Session that is given up pays for its withdrawal, all but this
+abbrev pub LeavesLittle : Run → Undoing → Type 0
+LeavesLittle old next = (before after : Outlook) → NoMore before after → undo_work next after ≤ run_work old before + 3
 
 -- as much as before
 abbrev pub KeepsWork : Run → Run → Type 0

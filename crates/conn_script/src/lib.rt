@@ -1,5 +1,6 @@
 //! What a request to the hub calls for: its calls of the hub, its exchanges with nodes and its pauses, one after the other, and
-//! its response. Each answer is taken by a function of its own, which does nothing outside itself and says what comes next.
+//! its response; and what is left to do where its client can't be told, since it has left, a write failed or memory was wanted. Each
+//! answer is taken by a function of its own, which does nothing outside itself and says what comes next.
 #![tactic(auto)]
 
 mod calling;
@@ -20,7 +21,7 @@ mod work;
 pub use calling::{Asked, Calling};
 pub use creating::Creating;
 pub use deleting::{Deleting, Quitted};
-pub use laws::{fixed_limits, scripts_find_spent_last, scripts_pause_behind_polls};
+pub use laws::{fixed_limits, scripts_find_spent_last, scripts_pause_behind_early_calls};
 pub use relaying::Relaying;
 pub use request::Whole;
 pub use responses::refusal;

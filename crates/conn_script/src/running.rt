@@ -1,8 +1,8 @@
 //! A script under way, whatever its route is: what it wants, and what each answer leads to.
 ghost use Rattle.std.specs.Prelude.{◌≡◌, true};
 ghost use Rattle.conn_script.specs.Running.{run_awaits};
-ghost use Rattle.conn_script.specs.Moving.{run_is_fresh, start_goes_on, Moves, AsksFor, AsksForItself, IsPassedOn, IsStartWant};
-ghost use Rattle.conn_script.specs.Wanted.{IsAwaited};
+ghost use Rattle.conn_script.specs.Moving.{run_is_fresh, start_goes_on, Moves, Leaves, AsksFor, AsksForItself, IsPassedOn, IsStartWant};
+ghost use Rattle.conn_script.specs.Wanted.{IsAwaited, is_wait};
 ghost use Rattle.conn_script.specs.declared.turn.Run.TheVariants as run;
 ghost use Rattle.conn_script.specs.declared.wants.Answer.TheVariants as told;
 
@@ -12,6 +12,7 @@ use crate::deleting::{Deleting, ended, freed, looked_up, quit};
 use crate::relaying::{Relaying, exchanged, node_found, touched};
 use crate::request::Whole;
 use crate::turn::{Run, Turn};
+use crate::undoing::Undoing;
 use crate::wants::{HubAnswer, PAUSE, Want};
 use grid_outside::{ExchangeFault, Reply};
 use http_frames::NodeRequest;
@@ -66,6 +67,27 @@ impl Run {
         match self {
             Run::Creating(creating) => create_paused(creating, close),
             _ => unreachable!(),
+        }
+    }
+
+    /// The client of a New Session that waits has left: its request is to be withdrawn.
+    pub fn left(self) -> Undoing
+        requires { IsAwaited told.Gone (run_awaits self) }
+        ensures { Leaves self result }
+    {
+        match self {
+            Run::Creating(creating) => create_left(creating),
+            _ => unreachable!(),
+        }
+    }
+
+    /// Whether it is a New Session that waits.
+    pub fn waits(&self) -> bool
+        ensures { result ≡ is_wait (run_awaits self.now) }
+    {
+        match self {
+            Run::Creating(creating) => create_waits(creating),
+            _ => false,
         }
     }
 }
@@ -222,4 +244,20 @@ fn create_paused(creating: Creating, close: bool) -> Turn
         Creating::Pausing(ticket) => polls_again(ticket),
         _ => unreachable!(),
     }
+}
+
+fn create_left(creating: Creating) -> Undoing
+    requires { IsAwaited told.Gone (run_awaits (run.Creating creating)) }
+    ensures { Leaves (run.Creating creating) result }
+{
+    match creating {
+        Creating::Pausing(ticket) => Undoing::Withdraw(ticket),
+        _ => unreachable!(),
+    }
+}
+
+fn create_waits(creating: &Creating) -> bool
+    ensures { result ≡ is_wait (run_awaits (run.Creating creating.now)) }
+{
+    matches!(creating, Creating::Pausing(_))
 }

@@ -7,7 +7,7 @@ use grid_types::{
 use http_frames::{FrameFault, NodeRequest};
 use hub_core::{
     Beating, Binding, Closing, Draining, Ending, Enqueued, Failing, Polled, Registering, Removal,
-    Reservation, Ticket, Touching,
+    Reservation, Ticket, Touching, Withdrawing,
 };
 
 /// The longest piece that is read or written at once, in bytes.
@@ -16,7 +16,7 @@ pub const PIECE: u64 = PIECE_BYTES as u64;
 /// How many bytes are read on a connection.
 pub const LIMIT: u64 = 1 << 40;
 
-/// Milliseconds between two polls of a request.
+/// Milliseconds between two polls of a request, or two withdrawals of it.
 pub const PAUSE: u64 = 15;
 
 /// How a connection was served to its end.
@@ -63,6 +63,8 @@ pub enum HubCall {
     Remove(NodeNo),
     Enqueue(Choices),
     Poll(Ticket),
+    /// The client of the request has left.
+    Withdraw(Ticket),
     Bind(Reservation, SessionId, Caps),
     Fail(Reservation, FailWhy),
     Lookup(SessionId),
@@ -82,6 +84,7 @@ pub enum HubAnswer {
     Remove(Removal),
     Enqueue(Enqueued),
     Poll(Polled),
+    Withdraw(Withdrawing),
     Bind(Binding),
     Fail(Failing),
     Lookup(Found),
@@ -130,4 +133,7 @@ pub enum Answer<'a> {
     Hub(HubAnswer),
     Node(Result<Reply, ExchangeFault>),
     Paused,
+    /// In place of the end of a pause in which a New Session waits: its client has left. The driver's count of failed reads
+    /// rose.
+    Gone,
 }

@@ -18,7 +18,7 @@ use Rattle.grid_types.specs.History.{after, clock, nodes}
 use Rattle.grid_types.specs.Nodes.{is_base_up, is_registered, is_spent}
 use Rattle.grid_types.specs.Slots.{held, holder}
 use Rattle.grid_types.specs.Bindings.{Running, bound_of, bindings}
-use Rattle.grid_types.specs.Requests.{Asked, place, place_by, held as held_place, is_unsettled, is_settled, is_taken, is_reserved, outcome_of, asked_of, deadline_of}
+use Rattle.grid_types.specs.Requests.{Asked, place, place_by, held as held_place, is_unsettled, is_waiting, is_settled, is_taken, is_reserved, outcome_of, asked_of, deadline_of}
 use Rattle.grid_types.specs.Sessions.{IsRunning, is_live, is_live_session, live, active, live_bindings}
 use Rattle.grid_types.specs.Choice.{Assignment, chosen}
 use Rattle.grid_types.specs.Permitted.{permitted, is_named, is_name_taken, is_well_sized, is_assignment, is_last, is_caller, is_start_failure, bool_eq, wanted_of}
@@ -26,7 +26,7 @@ use Rattle.grid_types.specs.Matching.{meets}
 use Rattle.grid_types.specs.Legal.{legal}
 use Rattle.grid_types.specs.Tokens.{Closing, is_good_ticket, is_good_reservation, is_good_closing}
 use Rattle.grid_types.specs.Calls.{Call, Reply}
-use Rattle.grid_types.specs.HubAnswers.{says, makes, moment, register_by, drained, enqueued, polled, polled_open, reserves, dispatched, bind_kept, bound, bound_by, failed, at_binding, is_binding, closes, expired_by, idle_bindings, hub, answer, after_call}
+use Rattle.grid_types.specs.HubAnswers.{says, makes, moment, register_by, drained, enqueued, polled, polled_open, withdrawn, reserves, dispatched, bind_kept, bound, bound_by, failed, at_binding, is_binding, closes, expired_by, idle_bindings, hub, answer, after_call}
 use Rattle.grid_types.specs.Laws.{is_good_call}
 use Rattle.grid_types.proofs.ListLemmas.{least-passes, least-all, all-filter, all-passed, and_left, and_right}
 use Rattle.grid_types.proofs.PermittedLemmas.{slot_eq-same, held-is}
@@ -111,6 +111,16 @@ poll-legal c H k r m None l t good e =
     by_deadline : (v : Bool) → nat_le (deadline_of H r) m ≡ v → is_unsettled (place H r) ≡ true → StaysLegal c H k (polled_open H k r m (chosen H m)) → nat_le (max m (clock H)) m ≡ true → StaysLegal c H k (polled H k r m None)
     by_deadline true late open_yet rest same_clock = grind arith
     by_deadline false early open_yet rest same_clock = rw early rest
+
+-- withdraw
+withdraw-legal : (c : HubConfig) (H : List Entry) (k r m : ℕ) (o : Option Outcome) → legal c H ≡ true → nat_le (clock H) m ≡ true → is_good_ticket H k r ≡ true → outcome_of H r ≡ o → StaysLegal c H k (withdrawn H r m o)
+unfolding permitted
+withdraw-legal c H k r m (Some o) l t good e = let done : is_settled H r ≡ true = rw e refl in both _ _ l (grind arith)
+withdraw-legal c H k r m None l t good e = by_place (is_waiting (place H r)) refl (still m (clock H) t)
+  where
+    by_place : (v : Bool) → is_waiting (place H r) ≡ v → nat_le (max m (clock H)) m ≡ true → StaysLegal c H k (withdrawn H r m None)
+    by_place true waits same_clock = grind arith
+    by_place false other same_clock = rw other l
 
 -- bind
 drain_bind-legal : (c : HubConfig) (G : List Entry) (k n m : ℕ) (b : Bool) → legal c G ≡ true → nat_le (clock G) m ≡ true → (b ≡ true → is_base_up G n ≡ true) →
@@ -201,6 +211,7 @@ answer-legal c H k (Call.drain n) m l t good = drain-legal c H k n m l t
 answer-legal c H k (Call.remove n) m l t good = grind arith
 answer-legal c H k (Call.enqueue choices) m l t good = enqueue-legal c H k choices m l t good
 answer-legal c H k (Call.poll u) m l t good = poll-legal c H k u.request m (outcome_of H u.request) l t good refl
+answer-legal c H k (Call.withdraw u) m l t good = withdraw-legal c H k u.request m (outcome_of H u.request) l t good refl
 answer-legal c H k Call.dispatch m l t good = dispatch-legal c H k m (chosen H m) l t refl
 answer-legal c H k (Call.bind u x caps) m l t good = bind-legal c H k u.request u.slot x caps m l t good
 answer-legal c H k (Call.fail u w) m l t good = fail-legal c H k u.request u.slot w m l t good

@@ -21,7 +21,7 @@ use Rattle.grid_types.specs.Permitted.{is_named}
 use Rattle.grid_types.specs.Tokens.{is_good_ticket, is_good_reservation, is_good_closing}
 use Rattle.grid_types.specs.Legal.{legal}
 use Rattle.grid_types.specs.Calls.{Call, Reply}
-use Rattle.grid_types.specs.HubAnswers.{Answer, says, moment, register_by, drained, enqueued, polled, polled_open, reserves, dispatched, bound, failed, at_binding, is_binding, closes, expired_by, idle_bindings, hub, answer, after_call}
+use Rattle.grid_types.specs.HubAnswers.{Answer, says, moment, register_by, drained, enqueued, polled, polled_open, withdrawn, reserves, dispatched, bound, failed, at_binding, is_binding, closes, expired_by, idle_bindings, hub, answer, after_call}
 use Rattle.grid_types.specs.Laws.{is_good_call, is_good_reply}
 use Rattle.grid_types.proofs.PermittedLemmas.{slot_eq-same}
 use Rattle.grid_types.proofs.SessionLemmas.{entry}
@@ -69,6 +69,10 @@ poll-gives : (H : List Entry) (k r m : ℕ) (o : Option Outcome) → is_good_tic
 poll-gives H k r m (Some o) good = refl
 poll-gives H k r m None good = let rest : GivesGood H k (polled_open H k r m (chosen H m)) = poll_open-gives H k r m (chosen H m) good in grind arith
 
+withdraw-gives : (H : List Entry) (k r m : ℕ) (o : Option Outcome) → is_good_ticket H k r ≡ true → GivesGood H k (withdrawn H r m o)
+withdraw-gives H k r m (Some o) good = refl
+withdraw-gives H k r m None good = grind arith
+
 bind-gives : (H : List Entry) (k r : ℕ) (s : SlotId) (x : List ℕ) (caps : List Cap) (m : ℕ) → GivesGood H k (bound H k r s x caps m)
 bind-gives H k r s x caps m = grind (arith, slot_eq-same s)
 
@@ -110,6 +114,7 @@ answer-gives c H k (Call.drain n) m l good = drain-gives H k n m
 answer-gives c H k (Call.remove n) m l good = grind arith
 answer-gives c H k (Call.enqueue choices) m l good = enqueue-gives c H k choices m l
 answer-gives c H k (Call.poll u) m l good = poll-gives H k u.request m (outcome_of H u.request) good
+answer-gives c H k (Call.withdraw u) m l good = withdraw-gives H k u.request m (outcome_of H u.request) good
 answer-gives c H k Call.dispatch m l good = dispatch-gives H k m (chosen H m)
 answer-gives c H k (Call.bind u x caps) m l good = bind-gives H k u.request u.slot x caps m
 answer-gives c H k (Call.fail u w) m l good = fail-gives H k u.request u.slot w m

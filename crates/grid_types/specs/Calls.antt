@@ -16,6 +16,7 @@ pub data Call : Type 0 where
   remove : (node : ℕ) → Call
   enqueue : (choices : List (List Cap)) → Call
   poll : (ticket : Ticket) → Call
+  withdraw : (ticket : Ticket) → Call
   dispatch : Call
   bind : (reservation : Reservation) (session : List ℕ) (caps : List Cap) → Call
   fail : (reservation : Reservation) (why : FailWhy) → Call
@@ -44,6 +45,7 @@ pub data Reply : Type 0 where
   not_yet : (ticket : Ticket) → Reply
   yours : (ticket : Ticket) (reservation : Reservation) → Reply
   settled : (outcome : Outcome) → Reply
+  withdrawn : Reply
   assigned : (reservation : Reservation) → Reply
   nothing : Reply
   bound : (binding : ℕ) → Reply

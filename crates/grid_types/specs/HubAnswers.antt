@@ -20,7 +20,7 @@ use Rattle.grid_types.specs.Matching.{meets}
 use Rattle.grid_types.specs.History.{after, clock, nodes, next_node, next_request}
 use Rattle.grid_types.specs.Nodes.{is_base_up, is_draining, is_registered, is_suspect, is_spent, beat_of}
 use Rattle.grid_types.specs.Slots.{has_slot_in_use, listed}
-use Rattle.grid_types.specs.Requests.{is_settled, outcome_of, deadline_of, unsettled, unsettled_bytes, waiting_requests}
+use Rattle.grid_types.specs.Requests.{place, is_waiting, is_settled, outcome_of, deadline_of, unsettled, unsettled_bytes, waiting_requests}
 use Rattle.grid_types.specs.Bindings.{Running, bound_of}
 use Rattle.grid_types.specs.Sessions.{is_live_session, live, found_of, active, live_bindings}
 use Rattle.grid_types.specs.Choice.{Assignment, chosen}
@@ -131,6 +131,19 @@ polled history caller request now None =
       reply = Reply.settled (outcome.TimedOut (moment (deadline_of history request)));
     }
     else polled_open history caller request now (chosen history now)
+
+-- withdraw, by the request's outcome: that, else a waiting request is cleared and its ticket is taken;
+-- of one that is held a start is under way, and it is to be asked again
+abbrev pub withdrawn : List Entry → ℕ → ℕ → Option Outcome → Answer
+withdrawn history request now (Some result) =
+    makes (change.Taken request (moment now)) (Reply.settled result)
+withdrawn history request now None =
+    if is_waiting (place history request) then
+    record {
+      changes = change.Cleared request (moment now) ∷ change.Taken request (moment now) ∷ [];
+      reply = Reply.withdrawn;
+    }
+    else says (Reply.not_yet (ticket_of history request))
 
 -- dispatch, by the assignment that is chosen
 abbrev pub dispatched : List Entry → ℕ → ℕ → Option Assignment → Answer
@@ -313,6 +326,8 @@ answer config history caller (Call.remove node) now =
 answer config history caller (Call.enqueue choices) now = enqueued config history choices now
 answer config history caller (Call.poll ticket) now =
     polled history caller ticket.request now (outcome_of history ticket.request)
+answer config history caller (Call.withdraw ticket) now =
+    withdrawn history ticket.request now (outcome_of history ticket.request)
 answer config history caller Call.dispatch now = dispatched history caller now (chosen history now)
 answer config history caller (Call.bind reservation session capabilities) now =
     bound history caller reservation.request reservation.slot session capabilities now

@@ -22,6 +22,7 @@ is_good_call history caller (Call.register registration) = is_well_sized registr
 is_good_call history caller (Call.enqueue choices) =
     nat_le 1 (length choices) && nat_le (length choices) MOST_CHOICES
 is_good_call history caller (Call.poll ticket) = is_good_ticket history caller ticket.request
+is_good_call history caller (Call.withdraw ticket) = is_good_ticket history caller ticket.request
 is_good_call history caller (Call.bind reservation session capabilities) =
     is_good_reservation history caller reservation.request reservation.slot
 is_good_call history caller (Call.fail reservation reason) =

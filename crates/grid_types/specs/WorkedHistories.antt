@@ -308,6 +308,24 @@ pub record WorkedFullQueue : Type 0 where
   pub supported : reply_after (record default_config { reject_unsupported = true }) ((first_node, 0) ∷ []) (wants chrome) 0 ≡ Reply.queued (ticket 1 300_000)
   pub not_asked : reply_after default_config ((first_node, 0) ∷ []) (wants firefox) 0 ≡ Reply.queued (ticket 1 300_000)
 
+-- two wait for the only slot, and the first is withdrawn
+abbrev pub one_withdrawn : List (Call × ℕ)
+one_withdrawn = one_queued ++ (wants chrome, 0) ∷ (Call.withdraw (ticket 1 300_000), 1) ∷ []
+
+pub record WorkedWithdrawals : Type 0 where
+  pub withdraws : reply_after default_config one_queued (Call.withdraw (ticket 1 300_000)) 1 ≡ Reply.withdrawn
+  pub next_is_assigned : reply_after default_config one_withdrawn Call.dispatch 1 ≡ Reply.assigned (reservation 2 1 first_address chrome)
+  pub held_is_to_wait : reply_after default_config (one_queued ++ (Call.dispatch, 0) ∷ []) (Call.withdraw (ticket 1 300_000)) 1
+      ≡ Reply.not_yet (ticket 1 300_000)
+  pub bound_is_told : reply_after default_config (one_queued ++ (Call.dispatch, 0) ∷ (binds 1 1 first_address (codes "a"), 1) ∷ [])
+      (Call.withdraw (ticket 1 300_000)) 1 ≡ Reply.settled (outcome.Created (codes "a") (named chrome) (slot 1) first_address 1)
+  pub cleared_is_told : reply_after (small_queue 2) (full_queue ++ (Call.clear, 0) ∷ []) (Call.withdraw (ticket 2 300_000)) 0
+      ≡ Reply.settled outcome.Cleared
+  pub overdue_is_withdrawn : reply_after default_config one_queued (Call.withdraw (ticket 1 300_000)) 300_000 ≡ Reply.withdrawn
+  pub makes_room : reply_after (small_queue 1) (one_queued ++ (Call.withdraw (ticket 1 300_000), 0) ∷ []) (Call.enqueue ([] ∷ [])) 0
+      ≡ Reply.queued (ticket 2 300_000)
+  pub is_legal : legal default_config (run default_config [] one_withdrawn) ≡ true
+
 -- a sweep: lapses, then suspicions, then time-outs, then removals, each by ascending number
 abbrev pub all_at_once : List (Call × ℕ)
 all_at_once =

@@ -1,5 +1,5 @@
 //! Concrete histories with their expected answers, each as a clause that is proved by computing the definitions.
-ghost use Rattle.grid_types.specs.WorkedHistories.{WorkedMatching, WorkedWriting, WorkedBusySlot, WorkedChoice, WorkedRetry, WorkedLateBind, WorkedDeadline, WorkedPoll, WorkedFullQueue, WorkedSweep, WorkedEqualIds, WorkedMismatch, WorkedNodes, WorkedLapse, WorkedPublishing, WorkedIdle, WorkedDrain, WorkedRound, WorkedNumbers, WorkedRefusals, WorkedSuspect, WorkedCount, WorkedQueueTime};
+ghost use Rattle.grid_types.specs.WorkedHistories.{WorkedMatching, WorkedWriting, WorkedBusySlot, WorkedChoice, WorkedRetry, WorkedLateBind, WorkedDeadline, WorkedPoll, WorkedFullQueue, WorkedWithdrawals, WorkedSweep, WorkedEqualIds, WorkedMismatch, WorkedNodes, WorkedLapse, WorkedPublishing, WorkedIdle, WorkedDrain, WorkedRound, WorkedNumbers, WorkedRefusals, WorkedSuspect, WorkedCount, WorkedQueueTime};
 ghost use Rattle.grid_types.specs.FullGrid.{WorkedFullGrid};
 
 /// What the hub answers after some calls, and which entries may not follow, at histories that were worked out by hand.
@@ -15,6 +15,7 @@ pub fn worked_histories()
     ensures deadline { WorkedDeadline }
     ensures poll { WorkedPoll }
     ensures full_queue { WorkedFullQueue }
+    ensures withdrawals { WorkedWithdrawals }
     ensures sweep { WorkedSweep }
     ensures equal_ids { WorkedEqualIds }
     ensures mismatch { WorkedMismatch }

@@ -1,5 +1,5 @@
--- What a script and the end of a session wait for: an answer of the hub, what came of an exchange, or the end of a pause.
-use Rattle.std.proofs.Common.{◌≡◌, ℕ, ◌-◌, min, length, refl, subst}
+-- What a script and what is done after a fault wait for: an answer of the hub, what came of an exchange, or the end of a pause.
+use Rattle.std.proofs.Common.{◌≡◌, ℕ, ◌-◌, min, length, true, false, refl, sym, ap, ◌∙◌, subst}
 use Rattle.std.specs.Prelude.{Option, None, Some}
 use Rattle.node_client.specs.Carrying as carrying
 use Rattle.conn_script.specs.declared.calling.Calling.TheVariants as calling
@@ -15,7 +15,7 @@ use Rattle.conn_script.specs.declared.undoing.Undoing.{Undoing}
 use Rattle.conn_script.specs.declared.undoing.Undoing.TheVariants as undo
 use Rattle.conn_script.specs.declared.wants.Answer.{Answer}
 use Rattle.conn_script.specs.declared.wants.Answer.TheVariants as told
-use Rattle.conn_script.specs.Wanted.{Awaited, piece, count, begun, answer_to, came, pause_end, nothing, IsAwaited}
+use Rattle.conn_script.specs.Wanted.{Awaited, piece, count, begun, answer_to, came, pause_end, wait_end, nothing, is_wait, IsAwaited}
 use Rattle.conn_script.specs.Running.{run_awaits, delete_awaits, relay_awaits, create_awaits, start_awaits}
 use Rattle.conn_script.specs.Undo.{undo_awaits}
 use Rattle.conn_script.specs.declared.wants.ConnFault.{ConnFault}
@@ -24,7 +24,7 @@ use Rattle.hub_conn.specs.declared.talk.Talk.{Talk}
 use Rattle.hub_conn.specs.declared.talk.Outgoing.{Outgoing}
 use Rattle.hub_conn.specs.declared.talk.State.{State}
 use Rattle.hub_conn.specs.declared.talk.State.TheVariants as states
-use Rattle.hub_conn.specs.Talk.{awaited, state_awaits}
+use Rattle.hub_conn.specs.Talk.{awaited, state_awaits, run_relays}
 
 -- such an answer is none of them
 abbrev pub IsOutside : Answer → Type 0
@@ -36,6 +36,7 @@ abbrev pub IsScripts : Awaited → Type 0
 IsScripts (answer_to k) = Unit {0}
 IsScripts came = Unit {0}
 IsScripts pause_end = Unit {0}
+IsScripts wait_end = Unit {0}
 IsScripts nothing = Unit {0}
 IsScripts w = ⊥
 
@@ -43,10 +44,12 @@ outside : (a : Answer) (w : Awaited) → IsOutside a → IsScripts w → IsAwait
 outside (told.Wrote n) (answer_to k) o s x = x
 outside (told.Wrote n) came o s x = x
 outside (told.Wrote n) pause_end o s x = x
+outside (told.Wrote n) wait_end o s x = x
 outside (told.Wrote n) nothing o s x = x
 outside told.WriteFailed (answer_to k) o s x = x
 outside told.WriteFailed came o s x = x
 outside told.WriteFailed pause_end o s x = x
+outside told.WriteFailed wait_end o s x = x
 outside told.WriteFailed nothing o s x = x
 outside (told.Wrote n) (piece m) o s x = absurd s
 outside (told.Wrote n) (count m) o s x = absurd s
@@ -61,6 +64,7 @@ outside told.Begun w o s x = absurd o
 outside (told.Hub h) w o s x = absurd o
 outside (told.Node r) w o s x = absurd o
 outside told.Paused w o s x = absurd o
+outside told.Gone w o s x = absurd o
 
 abbrev pub IsInside : Answer → Type 0
 IsInside (told.Hub h) = Unit {0}
@@ -72,6 +76,7 @@ abbrev pub IsOutsides : Awaited → Type 0
 IsOutsides (answer_to k) = ⊥
 IsOutsides came = ⊥
 IsOutsides pause_end = ⊥
+IsOutsides wait_end = ⊥
 IsOutsides w = Unit {0}
 
 abbrev pub IsReadAnswer : Answer → Type 0
@@ -91,6 +96,7 @@ scripts_no_piece begun s = tt
 scripts_no_piece (answer_to k) s = tt
 scripts_no_piece came s = tt
 scripts_no_piece pause_end s = tt
+scripts_no_piece wait_end s = tt
 scripts_no_piece nothing s = tt
 
 read_no : (a : Answer) (w : Awaited) → IsReadAnswer a → NoPiece w → IsAwaited a w → ⊥
@@ -99,18 +105,21 @@ read_no (told.Bytes b) begun o s x = x
 read_no (told.Bytes b) (answer_to k) o s x = x
 read_no (told.Bytes b) came o s x = x
 read_no (told.Bytes b) pause_end o s x = x
+read_no (told.Bytes b) wait_end o s x = x
 read_no (told.Bytes b) nothing o s x = x
 read_no told.EndOfInput (count m) o s x = x
 read_no told.EndOfInput begun o s x = x
 read_no told.EndOfInput (answer_to k) o s x = x
 read_no told.EndOfInput came o s x = x
 read_no told.EndOfInput pause_end o s x = x
+read_no told.EndOfInput wait_end o s x = x
 read_no told.EndOfInput nothing o s x = x
 read_no told.ReadFailed (count m) o s x = x
 read_no told.ReadFailed begun o s x = x
 read_no told.ReadFailed (answer_to k) o s x = x
 read_no told.ReadFailed came o s x = x
 read_no told.ReadFailed pause_end o s x = x
+read_no told.ReadFailed wait_end o s x = x
 read_no told.ReadFailed nothing o s x = x
 read_no a (piece m) o s x = absurd s
 read_no (told.Wrote n) w o s x = absurd o
@@ -119,6 +128,7 @@ read_no told.Begun w o s x = absurd o
 read_no (told.Hub h) w o s x = absurd o
 read_no (told.Node r) w o s x = absurd o
 read_no told.Paused w o s x = absurd o
+read_no told.Gone w o s x = absurd o
 
 begun_no : (w : Awaited) → IsScripts w → IsAwaited told.Begun w → ⊥
 begun_no (piece m) s x = x
@@ -127,6 +137,7 @@ begun_no begun s x = s
 begun_no (answer_to k) s x = x
 begun_no came s x = x
 begun_no pause_end s x = x
+begun_no wait_end s x = x
 begun_no nothing s x = x
 
 delete_scripts : (d : Deleting) → IsScripts (delete_awaits d)
@@ -168,6 +179,9 @@ run_scripts (run.Relaying r) = relay_scripts r
 run_scripts (run.Creating k) = create_scripts k
 
 undo_scripts : (u : Undoing) → IsScripts (undo_awaits u)
+undo_scripts (undo.Withdraw t) = tt
+undo_scripts undo.Withdrawing = tt
+undo_scripts (undo.Waiting t) = tt
 undo_scripts (undo.End s b) = tt
 undo_scripts (undo.Ending s b) = tt
 undo_scripts (undo.Quit c path) = tt
@@ -205,12 +219,14 @@ hub_scripts told.Paused nothing o s x = x
 hub_scripts a (answer_to k) o s x = absurd s
 hub_scripts a came o s x = absurd s
 hub_scripts a pause_end o s x = absurd s
+hub_scripts a wait_end o s x = absurd s
 hub_scripts (told.Wrote n) w o s x = absurd o
 hub_scripts told.WriteFailed w o s x = absurd o
 hub_scripts (told.Bytes b) w o s x = absurd o
 hub_scripts told.EndOfInput w o s x = absurd o
 hub_scripts told.ReadFailed w o s x = absurd o
 hub_scripts told.Begun w o s x = absurd o
+hub_scripts told.Gone w o s x = absurd o
 
 -- an answer to a script comes while one is under way, or the end of a session
 pub scripts_only : (talk : Talk) (a : Answer) → IsInside a → IsAwaited a (awaited talk) → ((r : Run) → ¬ (talk.state ≡ states.Running r)) →
@@ -232,14 +248,63 @@ pub awaits_at : (talk : Talk) (s : State) (a : Answer) → talk.state ≡ s → 
 unfolding awaited
 awaits_at talk s a e x = subst (λ (z : State). IsAwaited a (state_awaits z talk.read)) e x
 
--- no pause ends while a session is ended
-pub no_pause : (u : Undoing) → IsAwaited told.Paused (undo_awaits u) → ⊥
-no_pause (undo.End s b) x = x
-no_pause (undo.Ending s b) x = x
-no_pause (undo.Quit c path) x = x
-no_pause (undo.Free c) x = x
-no_pause undo.Freeing x = x
-no_pause undo.Over x = x
+-- ---- a wait
+
+never : false ≡ true → ⊥
+never e = cc
+
+start_no_wait : (k : Option carrying.Kind) → is_wait (start_awaits k) ≡ true → ⊥
+start_no_wait None e = never e
+start_no_wait (Some carrying.Exchange) e = never e
+start_no_wait (Some carrying.Bind) e = never e
+start_no_wait (Some carrying.Fail) e = never e
+start_no_wait (Some carrying.Freed) e = never e
+
+relay_no_wait : (r : Relaying) → is_wait (relay_awaits r) ≡ true → ⊥
+relay_no_wait (relaying.Lookup id target) e = never e
+relay_no_wait (relaying.LookingUp id target) e = never e
+relay_no_wait (relaying.Touch id b address target) e = never e
+relay_no_wait (relaying.Touching id b address target) e = never e
+relay_no_wait (relaying.Exchange address target) e = never e
+
+-- a command that is passed on does not wait so
+pub wait_relays_none : (r : Run) → is_wait (run_awaits r) ≡ true → run_relays r ≡ false
+wait_relays_none (run.Calling c) e = refl
+wait_relays_none (run.Deleting d) e = refl
+wait_relays_none (run.Relaying r) e = absurd (relay_no_wait r e)
+wait_relays_none (run.Creating k) e = refl
+
+undo_waits_none : (u : Undoing) → is_wait (undo_awaits u) ≡ false
+undo_waits_none (undo.Withdraw t) = refl
+undo_waits_none undo.Withdrawing = refl
+undo_waits_none (undo.Waiting t) = refl
+undo_waits_none (undo.End s b) = refl
+undo_waits_none (undo.Ending s b) = refl
+undo_waits_none (undo.Quit c path) = refl
+undo_waits_none (undo.Free c) = refl
+undo_waits_none undo.Freeing = refl
+undo_waits_none undo.Over = refl
+
+-- a state without a script does not
+state_waits_none : (s : State) (read : ℕ) → ((r : Run) → ¬ (s ≡ states.Running r)) → is_wait (state_awaits s read) ≡ false
+state_waits_none states.Reading read n = refl
+state_waits_none (states.Continuing sent) read n = refl
+state_waits_none states.Beginning read n = refl
+state_waits_none (states.Running r) read n = absurd (n r refl)
+state_waits_none (states.Writing out) read n = refl
+state_waits_none (states.Undoing fault u) read n = undo_waits_none u
+state_waits_none (states.Done r) read n = refl
+
+pub waits_none : (talk : Talk) → ((r : Run) → ¬ (talk.state ≡ states.Running r)) → is_wait (awaited talk) ≡ false
+unfolding awaited
+waits_none talk n = state_waits_none talk.state talk.read n
+
+pub waits_only : (talk : Talk) → IsAwaited told.Gone (awaited talk) → ((r : Run) → ¬ (talk.state ≡ states.Running r)) → ⊥
+waits_only talk x n = never (sym (waits_none talk n) ∙ x)
+
+pub waits_as : (talk : Talk) (r : Run) → talk.state ≡ states.Running r → is_wait (awaited talk) ≡ is_wait (run_awaits r)
+unfolding awaited
+waits_as talk r e = ap (λ (s : State). is_wait (state_awaits s talk.read)) e
 
 -- a piece, or the end of the input, comes where it reads
 pub reading_only : (talk : Talk) (a : Answer) → IsReadAnswer a → IsAwaited a (awaited talk) → talk.state ≡ states.Reading

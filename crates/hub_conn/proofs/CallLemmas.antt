@@ -80,6 +80,9 @@ delete_left (deleting.Free c q) call left w e = one_held call (Call.freed c) (of
 delete_left (deleting.Freeing q) call left w e = nothing_held call left e
 
 undo_left : (u : Undoing) (call : Call) (left : List Token) → UndoWants u (to_call call) → undo_tokens u ≡ call_tokens call ++ left → AreBeside call left
+undo_left (undo.Withdraw t) call left w e = one_held call (Call.withdraw t) (of_ticket t) left w refl e
+undo_left undo.Withdrawing call left w e = nothing_held call left e
+undo_left (undo.Waiting t) call left w e = absurd cc
 undo_left (undo.End s b) call left w e = nothing_held call left e
 undo_left (undo.Ending s b) call left w e = nothing_held call left e
 undo_left (undo.Quit c path) call left w e = absurd cc
@@ -157,6 +160,9 @@ relay_rightful f (relaying.Touching id b address target) call w = rightful_as ca
 relay_rightful f (relaying.Exchange address target) call w = absurd cc
 
 undo_rightful : (u : Undoing) (call : Call) → UndoWants u (to_call call) → is_rightful call ≡ true
+undo_rightful (undo.Withdraw t) call w = rightful_as call (Call.withdraw t) w refl
+undo_rightful undo.Withdrawing call (t, w) = rightful_as call (Call.withdraw t) w refl
+undo_rightful (undo.Waiting t) call w = absurd cc
 undo_rightful (undo.End s b) call w = rightful_as call (Call.end s b) w refl
 undo_rightful (undo.Ending s b) call w = rightful_as call (Call.end s b) w refl
 undo_rightful (undo.Quit c path) call w = absurd cc
@@ -234,6 +240,9 @@ relay_none f (relaying.Touching id b address target) w ts x = none_as (to_call (
 relay_none f (relaying.Exchange address target) w ts x = none_as (to_ask _ _) w ts x tt
 
 undo_none : (u : Undoing) (w : Wanted) (ts : List Token) → UndoWants u w → HoldsNoneAt w ts
+undo_none (undo.Withdraw t) w ts x = none_as (to_call (Call.withdraw t)) w ts x tt
+undo_none undo.Withdrawing w ts (t, x) = none_as (to_call (Call.withdraw t)) w ts x tt
+undo_none (undo.Waiting t) w ts x = none_as (to_pause _) w ts x tt
 undo_none (undo.End s b) w ts x = none_as (to_call (Call.end s b)) w ts x tt
 undo_none (undo.Ending s b) w ts x = none_as (to_call (Call.end s b)) w ts x tt
 undo_none (undo.Quit c path) w ts x = none_as (to_ask _ _) w ts x tt

@@ -21,9 +21,10 @@ use Rattle.conn_script.specs.declared.undoing.Undoing.{Undoing}
 use Rattle.conn_script.specs.Begin.{Begun}
 use Rattle.conn_script.specs.Responses.{continue_text}
 use Rattle.conn_script.specs.Wanted.{Wanted, Fits, Made, bytes_in, taken_of, told_tokens}
-use Rattle.conn_script.specs.Moving.{Moves, turn_tokens}
+use Rattle.conn_script.specs.Moving.{Moves, Leaves, turn_tokens}
 use Rattle.conn_script.specs.declared.undoing.Undoing.TheVariants as undo
-use Rattle.conn_script.specs.Undo.{UndoMoves, UndoLeads, UndoFollows, undo_tokens}
+use Rattle.conn_script.specs.Undo.{UndoMoves, UndoLeads, UndoFollows, WaitsBehind}
+use Rattle.conn_script.specs.Responses.{left as no_response}
 use Rattle.hub_conn.specs.declared.inbox.Inbox.{Inbox}
 use Rattle.hub_conn.specs.declared.talk.Talk.{Talk}
 use Rattle.hub_conn.specs.declared.talk.State.{State}
@@ -33,19 +34,22 @@ use Rattle.hub_conn.specs.declared.talk.Then.{Then}
 use Rattle.hub_conn.specs.declared.talk.Then.TheVariants as after
 use Rattle.hub_conn.specs.Conversation.{Waits, Finished, MemoryBroke}
 use Rattle.hub_conn.specs.Inbox.{unread, Holds, HoldsSome, HoldsWhole}
-use Rattle.conn_script.specs.Work.{Outlook, turn_work, undo_work, queue_work}
-use Rattle.hub_conn.specs.Work.{bytes_left, FeedsLess, LeavesAtMost, TurnsTo, SendsSome, ContinuesSome}
-use Rattle.hub_conn.specs.Talk.{Rests, StandsForSome, IsAnswerable, HoldsNext, IsWriting, Answered, Standing, IsBetween, IsTurned, GoesOn, HasUndone, Feeds, Settles, Cause, of_read, of_write, of_end, of_nothing, cause_of, cause_after, blamed, state_cause, tokens, state_tokens, Stands, StandsNow, awaited, state_awaits, BreaksOff, SendsBy, ContinuesBy, state_relays, HasLeft, writes_bytes, TurnWrites}
+use Rattle.conn_script.specs.Work.{Outlook, turn_work, queue_work}
+use Rattle.hub_conn.specs.Work.{bytes_left, FeedsLess, LeavesAtMost, LeavesUndoing, TurnsTo, SendsSome, ContinuesSome}
+use Rattle.hub_conn.specs.Talk.{Rests, StandsForSome, IsAnswerable, HoldsNext, IsWriting, Answered, Standing, IsBetween, IsTurned, GoesOn, HasUndone, Feeds, Settles, SettlesUndoing, WaitsRightly, Cause, of_read, of_write, of_end, of_nothing, cause_of, cause_after, blamed, state_cause, tokens, state_tokens, Stands, StandsNow, awaited, state_awaits, BreaksOff, SendsBy, ContinuesBy, state_relays, HasLeft, writes_bytes, TurnWrites}
 use Rattle.hub_conn.proofs.PassLemmas.{few_plain, few_turn, sent_stays, none_stays, other_stays}
 use Rattle.hub_conn.proofs.ReadLemmas.{WholeStays, WholeTakes, reads_grow}
-use Rattle.hub_conn.proofs.StateLemmas.{in_state_of, done_stands}
-use Rattle.hub_conn.proofs.WorkLemmas.{done_less, reading_some_work, continuing_some_work, sent_feeds, continued_feeds, broken_less, begun_less, turn_less, undo_feeds}
+use Rattle.hub_conn.proofs.StateLemmas.{in_state_of, done_stands, leaves_in}
+use Rattle.hub_conn.proofs.WantLemmas.{ends_last}
+use Rattle.hub_conn.proofs.WorkLemmas.{done_less, reading_some_work, continuing_some_work, sent_feeds, continued_feeds, broken_less, begun_less, turn_less, undo_feeds, gone_less}
 use Rattle.hub_conn.proofs.EndLemmas.{NoneAccepted, memory_broke, unended, talked_closed, talked_cut, read_on_of}
-use Rattle.hub_conn.proofs.GoLemmas.{turned_of, turned_first}
+use Rattle.hub_conn.proofs.GoLemmas.{turned_of, turned_first, left_off}
 use Rattle.hub_conn.proofs.WriteLemmas.{writes_kept, continue_breaks, continuing_kept}
-use Rattle.hub_conn.proofs.AwaitLemmas.{no_count_run, no_count_undo, reading_only, awaits_at}
+use Rattle.hub_conn.proofs.AwaitLemmas.{no_count_run, no_count_undo, reading_only, awaits_at, wait_relays_none}
 use Rattle.std.proofs.lemmas.Bool.{cases_lt}
 use Rattle.conn_script.specs.Routing.{FirstTurn}
+use Rattle.conn_script.specs.Running.{RunFollows}
+use Rattle.conn_script.specs.Pauses.{ends_early}
 use Rattle.conn_script.specs.Wanted.{IsAwaited}
 
 -- ---- in general
@@ -73,6 +77,7 @@ feeds_plain old new answer s cause e free none apart stays settles cause_is brin
     (λ x. settles.holds ∙ sym (ap (λ (ts : List Token). ts ++ tokens old) brings ∙ tokens_in old s e ∙ none)),
     (λ x. settles.holds),
   );
+  stays = λ n x. settles.stays;
   stands = stands;
   less = less;
   few = few_plain old new answer s e apart stays;
@@ -220,7 +225,7 @@ feeds_read_failed takes none old new e settles failed =
     no_bytes new own bytes (steps ++ made) (written ++ [])
     (nothing_made new own bytes steps made written made_is
     (done_stands new (Err faults.Read) own bytes steps written failed
-    (unended takes none old own bytes x.rest steps written (read_on_of old own w bytes steps written x) x.in_state.5 (omega (arith, x.in_state.2, x.counts.read))))))
+    (inl (unended takes none old own bytes x.rest steps written (read_on_of old own w bytes steps written x) x.in_state.5 (omega (arith, x.in_state.2, x.counts.read)))))))
 
 pub feeds_closed : WholeTakes → NoneAccepted → (old new : Talk) → old.state ≡ states.Reading → Settles new of_end [] → old.begins ≡ old.read →
     new.state ≡ states.Done (Ok (record { frames = old.frames; end = ends.Closed; short = old.short })) → Feeds old told.EndOfInput new
@@ -300,6 +305,7 @@ feeds_turn old mid new run answer t e moves rests settles goes cause_is no_piece
     (λ x. settles.holds ∙ moves.keeps x ∙ ap (λ (ts : List Token). told_tokens answer ++ ts) (sym (tokens_in old (states.Running run) e))),
     (λ x. settles.holds ∙ moves.void x),
   );
+  stays = λ n x. settles.stays;
   stands = λ own w bytes steps written made st fits made_is.
       let x = in_state_of old (states.Running run) own w bytes steps written e st in
       let turned : IsTurned mid own bytes (steps ++ made) written t =
@@ -311,20 +317,34 @@ feeds_turn old mid new run answer t e moves rests settles goes cause_is no_piece
   few = few_turn old new run answer t e moves writes;
 }
 
--- ---- an answer while a session is ended
+-- ---- an answer after a fault, while a request is withdrawn or a session is ended
 
 -- whatever it leads to leads further
 leads_on : (u : Undoing) (A B : List Step → Type 0) → ((more : List Step) → A more → B more) → UndoLeads u A → UndoLeads u B
 leads_on undo.Over A B f x = f [] x
+leads_on (undo.Withdraw t) A B f x = (x.0, x.1, (λ more y. f more (x.2 more y)))
+leads_on undo.Withdrawing A B f x = (x.0, x.1, (λ more y. f more (x.2 more y)))
+leads_on (undo.Waiting t) A B f x = (x.0, x.1, (λ more y. f more (x.2 more y)))
 leads_on (undo.End s b) A B f x = (x.0, x.1, (λ more y. f more (x.2 more y)))
 leads_on (undo.Ending s b) A B f x = (x.0, x.1, (λ more y. f more (x.2 more y)))
 leads_on (undo.Quit c path) A B f x = (x.0, x.1, (λ more y. f more (x.2 more y)))
 leads_on (undo.Free c) A B f x = (x.0, x.1, (λ more y. f more (x.2 more y)))
 leads_on undo.Freeing A B f x = (x.0, x.1, (λ more y. f more (x.2 more y)))
 
+waits_rightly : (u : Undoing) (steps made : List Step) → WaitsBehind u made → WaitsRightly u (steps ++ made)
+waits_rightly (undo.Waiting t) steps made (v, at, e) = ends_last false steps made (ap ends_early e)
+waits_rightly undo.Over steps made x = tt
+waits_rightly (undo.Withdraw t) steps made x = tt
+waits_rightly undo.Withdrawing steps made x = tt
+waits_rightly (undo.End s b) steps made x = tt
+waits_rightly (undo.Ending s b) steps made x = tt
+waits_rightly (undo.Quit c path) steps made x = tt
+waits_rightly (undo.Free c) steps made x = tt
+waits_rightly undo.Freeing steps made x = tt
+
 pub feeds_undo : (old new : Talk) (fault : ConnFault) (u v : Undoing) (answer : Answer) → old.state ≡ states.Undoing fault u → UndoMoves u answer v →
-    Settles new (state_cause (states.Undoing fault u)) (undo_tokens v) → HasUndone fault v new → (of_nothing ≡ cause_of answer) → bytes_in answer ≡ [] →
-    ((w : Wanted) → taken_of answer w ≡ []) → LeavesAtMost (1 + undo_work v) new → Feeds old answer new
+    SettlesUndoing new fault v → HasUndone fault v new → (of_nothing ≡ cause_of answer) → bytes_in answer ≡ [] →
+    ((w : Wanted) → taken_of answer w ≡ []) → LeavesUndoing v new → Feeds old answer new
 feeds_undo old new fault u v answer e moves settles undone cause_is no_piece no_write leaves = record {
   fresh = settles.fresh;
   blames = settles.blames ∙ kept (state_cause (states.Undoing fault u)) ∙ ap (λ (c : Cause). cause_after c answer) (sym (blamed_in old (states.Undoing fault u) e));
@@ -332,11 +352,12 @@ feeds_undo old new fault u v answer e moves settles undone cause_is no_piece no_
     (λ x. settles.holds ∙ moves.keeps x ∙ ap (λ (ts : List Token). told_tokens answer ++ ts) (sym (tokens_in old (states.Undoing fault u) e))),
     (λ x. settles.holds ∙ moves.void x),
   );
+  stays = λ n x. settles.leaves_so ∙ moves.stays (sym (leaves_in old (states.Undoing fault u) e) ∙ x);
   stands = λ own w bytes steps written made st fits made_is.
       let x = in_state_of old (states.Undoing fault u) own w bytes steps written e st in
       subst (λ (b : List ℕ). StandsNow new own b (steps ++ made) (written ++ taken_of answer w)) (sym (ap (λ (p : List ℕ). bytes ++ p) no_piece ∙ append-nil bytes))
       (subst (λ (b : List ℕ). StandsNow new own bytes (steps ++ made) b) (sym (ap (λ (p : List ℕ). written ++ p) (no_write w) ∙ append-nil written))
-      (undone own bytes (steps ++ made) written
+      (undone own bytes (steps ++ made) written (waits_rightly v steps made (moves.waits own w made x.wants fits made_is))
       (leads_on v (λ more. UndoFollows u w (made ++ more)) (λ more. Finished own (Err fault) bytes ((steps ++ made) ++ more) written)
       (λ more y. subst (λ (s : List Step). Finished own (Err fault) bytes s written) (sym (append_assoc steps made more)) (x.ends (made ++ more) y))
       (moves.leads own w made x.wants fits made_is))));
@@ -349,6 +370,34 @@ feeds_undo old new fault u v answer e moves settles undone cause_is no_piece no_
     kept of_read = refl
     kept of_write = refl
     kept of_end = refl
+
+-- ---- a client that has left
+
+pub feeds_gone : WholeStays → (old new : Talk) (run : Run) (u : Undoing) → old.state ≡ states.Running run → IsAwaited told.Gone (awaited old) → Leaves run u →
+    SettlesUndoing new faults.Read u → HasUndone faults.Read u new → LeavesUndoing u new → Feeds old told.Gone new
+feeds_gone whole old new run u e awaits leaves settles undone little = record {
+  fresh = settles.fresh;
+  blames = settles.blames ∙ ap (λ (c : Cause). cause_after c told.Gone) (sym (blamed_in old (states.Running run) e));
+  keeps = (
+    (λ x. settles.holds ∙ leaves.keeps ∙ sym (tokens_in old (states.Running run) e)),
+    (λ x. absurd (never x)),
+  );
+  stays = λ n x. absurd (n refl);
+  stands = λ own w bytes steps written made st fits made_is.
+      let x = in_state_of old (states.Running run) own w bytes steps written e st in
+      no_bytes new own bytes (steps ++ made) (written ++ [])
+      (nothing_made new own bytes steps made written made_is
+      (undone own bytes steps written
+      (subst (λ (s : List Step). WaitsRightly u s) (append-nil steps) (waits_rightly u steps [] leaves.waits))
+      (leads_on u (λ more. RunFollows x.in_state.0 run x.aim w more no_response) (λ more. Finished own (Err faults.Read) bytes (steps ++ more) written)
+      (λ more y. inr (left_off whole old run own w bytes steps more written x y)) (leaves.leads x.in_state.0 x.aim w x.in_state.2.wants))));
+  less = gone_less old new run u e leaves.less little;
+  few = few_plain old new told.Gone (states.Running run) e (wait_relays_none run (awaits_at old (states.Running run) told.Gone e awaits))
+      (none_stays old new (states.Running run) told.Gone e (λ n x. x));
+}
+  where
+    never : false ≡ true → ⊥
+    never z = cc
 
 -- ---- a write
 

@@ -11,7 +11,7 @@ use Rattle.conn_script.specs.declared.turn.Turn.{Turn}
 use Rattle.conn_script.specs.declared.turn.Turn.TheVariants as turn
 use Rattle.conn_script.specs.declared.undoing.Undoing.{Undoing}
 use Rattle.conn_script.specs.declared.undoing.Undoing.TheVariants as undo
-use Rattle.conn_script.specs.Responses.{Response, created, hub_spent, continue_text}
+use Rattle.conn_script.specs.Responses.{Response, created, hub_spent, left as no_response, continue_text}
 use Rattle.conn_script.specs.Script.{Script, Lacks, behind_all}
 use Rattle.conn_script.specs.Begin.{Begun}
 use Rattle.conn_script.specs.Undo.{Undoes, UndoWants, UndoFollows, UndoLeads, undo_goes_on}
@@ -23,7 +23,7 @@ use Rattle.conn_script.specs.Routing.{FirstTurn}
 use Rattle.hub_conn.specs.declared.inbox.Inbox.{Inbox}
 use Rattle.hub_conn.specs.declared.talk.Talk.{Talk}
 use Rattle.hub_conn.specs.declared.talk.State.TheVariants as states
-use Rattle.hub_conn.specs.Conversation.{MemoryBroke, in_request, Finished}
+use Rattle.hub_conn.specs.Conversation.{LeftOff, MemoryBroke, in_request, Finished}
 use Rattle.hub_conn.specs.Inbox.{unread, HoldsWhole}
 use Rattle.hub_conn.specs.Talk.{SameBut, Rests, Answered, AtFront, Standing, IsTurned, IsComplete, StandsNow, EndsUndone, HasUndone}
 use Rattle.hub_conn.proofs.ReadLemmas.{WholeStays, WholeTakes}
@@ -247,24 +247,52 @@ broke_now stays takes old t own bytes steps written x (inr (response, script, un
     subst (λ (s : List Step). MemoryBroke own bytes s written) (append-nil steps)
     (broke stays takes old t own bytes steps [] written x (behind_all (x.mine ++ x.made) [] response script undoes))
 
--- ---- the end of a session that was created
+-- ---- a client that has left
+
+pub left_off : WholeStays → (old : Talk) (run : Run) (own : Option (List ℕ)) (w : Wanted) (bytes : List ℕ) (steps more : List Step) (written : List ℕ) →
+    (x : Standing (states.Running run) old own w bytes steps written) → RunFollows x.in_state.0 run x.aim w more no_response → LeftOff own bytes (steps ++ more) written
+left_off stays old run own w bytes steps more written x follows =
+    let f = x.in_state.0 in
+    let front = x.in_state.1 in
+    let u = x.in_state.2 in
+    let whole = whole_front old.inbox x.rest f stays front.holds in record {
+      requests = x.answered.requests;
+      rest = x.rest;
+      begins = x.answered.reads;
+      responses = x.responses;
+      before = x.before;
+      scripts = x.answered.scripts;
+      f = f;
+      behind = whole.0;
+      whole = whole.1;
+      mine = u.before ++ (u.mine ++ more);
+      answers = record { begun = u.before; script_steps = u.mine ++ more; begins = u.begins; script = u.leads more no_response follows; steps_are = refl };
+      steps_are = ap (λ (s : List Step). s ++ more) (x.steps_are ∙ ap (λ (s : List Step). x.before ++ s) u.steps_are)
+          ∙ append_assoc x.before (u.before ++ u.mine) more ∙ ap (λ (s : List Step). x.before ++ s) (append_assoc u.before u.mine more);
+      written_is = x.written_is ∙ ap (λ (b : List ℕ). x.responses ++ b) (x.in_state.3 ∙ ap continue_text front.continued_is);
+    }
+
+-- ---- what is done after a fault
 
 pub undoing_stands : (new : Talk) (fault : ConnFault) (session : List ℕ) (binding : ℕ) → new.state ≡ states.Undoing fault (undo.End session binding) → EndsUndone fault session binding new
 undoing_stands new fault session binding state own bytes steps written ends = (
   to_call (Call.end session binding),
   stands_in new (states.Undoing fault (undo.End session binding)) own (to_call (Call.end session binding)) bytes steps written state
-      (record { wants = refl; ends = ends }),
+      (record { wants = refl; waits = tt; ends = ends }),
 )
 
 -- it goes on
 pub undone_stands : (new : Talk) (fault : ConnFault) (u : Undoing) → ¬ (u ≡ undo.Over) → new.state ≡ states.Undoing fault u → HasUndone fault u new
-undone_stands new fault u other state own bytes steps written leads =
+undone_stands new fault u other state own bytes steps written waits leads =
     let x = on u other leads in
-    (x.0, stands_in new (states.Undoing fault u) own x.0 bytes steps written state (record { wants = x.1; ends = x.2 }))
+    (x.0, stands_in new (states.Undoing fault u) own x.0 bytes steps written state (record { wants = x.1; waits = waits; ends = x.2 }))
   where
     on : (v : Undoing) → ¬ (v ≡ undo.Over) → UndoLeads v (λ more. Finished own (Err fault) bytes (steps ++ more) written) →
         (w : Wanted) × UndoWants v w × ((more : List Step) → UndoFollows v w more → Finished own (Err fault) bytes (steps ++ more) written)
     on undo.Over n x = absurd (n refl)
+    on (undo.Withdraw t) n x = x
+    on undo.Withdrawing n x = x
+    on (undo.Waiting t) n x = x
     on (undo.End s b) n x = x
     on (undo.Ending s b) n x = x
     on (undo.Quit c path) n x = x
@@ -273,7 +301,7 @@ undone_stands new fault u other state own bytes steps written leads =
 
 -- it is over
 pub undone_done : (new : Talk) (fault : ConnFault) (u : Undoing) → u ≡ undo.Over → new.state ≡ states.Done (Err fault) → HasUndone fault u new
-undone_done new fault u is state own bytes steps written leads =
+undone_done new fault u is state own bytes steps written waits leads =
     let x = subst (λ (v : Undoing). UndoLeads v (λ more. Finished own (Err fault) bytes (steps ++ more) written)) is leads in
     done_stands new (Err fault) own bytes steps written state (subst (λ (s : List Step). Finished own (Err fault) bytes s written) (append-nil steps) x)
 

@@ -151,7 +151,7 @@ refuses_so takes old new why text text_is state same short own bytes rest steps 
       (record {
         unsent = text;
         unsent_is = refl;
-        some = subst (λ (t : List ℕ). 0 < length t) (sym text_is) (response_some (refusal why) true);
+        some = subst (λ (t : List ℕ). 0 < length t) (sym text_is) (response_some (refusal why) true (λ e. cc));
         wants = refl;
         short = short ∙ x.short;
         writing = (

@@ -232,6 +232,7 @@ call_within (answers.End a) call at = tt
 call_within answers.Freed call at = tt
 call_within (answers.Clear a) call at = tt
 call_within (answers.View a) call at = tt
+call_within (answers.Withdraw a) call at = tt
 call_within (answers.Spent s) call at = tt
 call_within answers.NoRoom call at = tt
 
@@ -246,6 +247,7 @@ call_made own (told.Wrote n) call made fits e = subst StepsWithin (sym e) tt
 call_made own told.WriteFailed call made fits e = subst StepsWithin (sym e) tt
 call_made own told.Begun call made fits e = subst StepsWithin (sym e) tt
 call_made own told.Paused call made fits e = subst StepsWithin (sym e) tt
+call_made own told.Gone call made fits e = subst StepsWithin (sym e) tt
 
 ask_made : (own : Option (List ℕ)) (answer : Answer) (address : List ℕ) (ask : Ask) (made : List Step) → Fits answer (to_ask address ask) →
     Made own answer (to_ask address ask) made → IsWithin answer → StepsWithin made
@@ -258,6 +260,7 @@ ask_made own (told.Wrote n) address ask made fits e within = subst StepsWithin (
 ask_made own told.WriteFailed address ask made fits e within = subst StepsWithin (sym e) tt
 ask_made own told.Begun address ask made fits e within = subst StepsWithin (sym e) tt
 ask_made own told.Paused address ask made fits e within = subst StepsWithin (sym e) tt
+ask_made own told.Gone address ask made fits e within = subst StepsWithin (sym e) tt
 
 relay_made : (own : Option (List ℕ)) (f : Request) (r : Relaying) (answer : Answer) (w : Wanted) (made : List Step) → RelayWants f r w → Fits answer w →
     Made own answer w made → IsWithin answer → StepsWithin made

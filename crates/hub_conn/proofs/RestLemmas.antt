@@ -15,7 +15,7 @@ use Rattle.hub_conn.specs.declared.talk.State.TheVariants as states
 use Rattle.hub_conn.specs.declared.talk.Then.{Then}
 use Rattle.hub_conn.specs.declared.talk.Then.TheVariants as after
 use Rattle.hub_conn.specs.Inbox.{unread, HasRead, Holds, HoldsSame, HoldsWhole}
-use Rattle.hub_conn.specs.Talk.{AtFront, InState, IsRested, IsWriting, Standing, Stands, StandsIn, awaited, blamed, held, is_fresh, tokens}
+use Rattle.hub_conn.specs.Talk.{AtFront, InState, IsRested, IsWriting, Standing, Stands, StandsIn, awaited, blamed, held, is_fresh, leaves, tokens}
 use Rattle.hub_conn.specs.Work.{work}
 
 -- ---- the bytes that are not answered
@@ -130,11 +130,12 @@ module _ (old : Talk) (i : Inbox) (r : Option Router) (same : HoldsSame old.inbo
   stands_in (states.Done result) own w bytes steps written x = x
 
   pub is_rested : IsRested old (rested old i r)
-  unfolding Stands is_fresh blamed tokens awaited held work
+  unfolding Stands is_fresh blamed tokens leaves awaited held work
   is_rested = record {
     fresh = refl;
     blames = refl;
     keeps = refl;
+    leaves_so = refl;
     awaits = refl;
     holds = refl;
     stands = λ own w bytes steps written x. stands_in old.state own w bytes steps written x;

@@ -7,7 +7,7 @@ use Rattle.grid_outside.specs.declared.exchange.ExchangeFault.TheVariants as fau
 use Rattle.grid_outside.specs.Exchanges.{Came}
 use Rattle.node_client.specs.Steps.{Step, step_lacks, met_want, lacked}
 use Rattle.conn_script.specs.Responses as said
-use Rattle.conn_script.specs.Responses.{Response, created, passed_on, hub_spent, bytes_of, is_last, response_text}
+use Rattle.conn_script.specs.Responses.{Response, created, passed_on, hub_spent, left, bytes_of, is_last, response_text}
 use Rattle.conn_script.specs.Begin.{Begun, Begins, swept, beaten, Expires, none_idle, one_idle, AsksToEnd, asked, not_asked}
 use Rattle.hub_conn.specs.Conversation.{Answers, Scripts, none, last_spent, next, answer_text}
 
@@ -29,7 +29,7 @@ scripts_more own _ _ _ _ f mine response (next g requests steps more answer writ
     (scripts_more own requests more written spent f mine response others e last x)))
 
 pub scripts_last : (own : Option (List ℕ)) (requests : List Request) (steps : List Step) (written : List ℕ) (spent : Bool) (f : Request) (mine : List Step) (response : Response) →
-    Scripts own requests steps written spent → spent ≡ false → is_last response ≡ true → Answers own f mine response →
+    Scripts own requests steps written spent → spent ≡ false → response ≡ hub_spent → Answers own f mine response →
     Scripts own (requests ++ f ∷ []) (steps ++ mine) (written ++ answer_text f response) true
 scripts_last own _ _ _ _ f mine response none e last x = last_spent f mine response last x
 scripts_last own _ _ _ _ f mine response (last_spent g steps answer is y) e last x = absurd (no e)
@@ -83,10 +83,19 @@ begun_meets_none (Some nodes) steps x = begins_meet_none nodes steps x
 
 -- ---- responses
 
--- no response is empty
-pub response_some : (response : Response) (close : Bool) → 0 < length (bytes_of response close)
+-- no response is empty, where there is one
+pub response_some : (response : Response) (close : Bool) → response ≢ left → 0 < length (bytes_of response close)
 unfolding response_text
-response_some (created session caps binding) close = omega arith
-response_some (said.own status body) close = omega arith
-response_some (passed_on r) close = omega arith
-response_some hub_spent close = omega arith
+response_some (created session caps binding) close n = omega arith
+response_some (said.own status body) close n = omega arith
+response_some (passed_on r) close n = omega arith
+response_some hub_spent close n = omega arith
+response_some left close n = absurd (n refl)
+
+-- a last response is that of a spent hub
+pub is_of_spent_hub : (response : Response) → is_last response ≡ true → response ≢ left → response ≡ hub_spent
+is_of_spent_hub (created session caps binding) e n = absurd cc
+is_of_spent_hub (said.own status body) e n = absurd cc
+is_of_spent_hub (passed_on r) e n = absurd cc
+is_of_spent_hub hub_spent e n = refl
+is_of_spent_hub left e n = absurd (n refl)

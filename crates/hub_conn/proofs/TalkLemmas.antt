@@ -1,7 +1,7 @@
 -- What a connection says in each state, and what each answer does.
 use Rattle.std.proofs.Common.{◌≡◌, ℕ, ◌-◌, ◌<◌, ◌≤◌, min, Bool, true, false, List, [], ◌++◌, length, take, drop, refl, sym, ap, ◌∙◌, subst, arith, append-nil, length-drop, inl, inr}
 use Rattle.std.specs.Borrow.{Bor}
-use Rattle.std.specs.Prelude.{Option, Result, Err}
+use Rattle.std.specs.Prelude.{Option, None, Some, Result, Err}
 use Rattle.std.proofs.lemmas.Bool.{cases_lt}
 use Rattle.std.proofs.lemmas.List.{length-take}
 use Rattle.http_frames.specs.declared.frames.TheConstants.{LIMITS}
@@ -18,22 +18,30 @@ use Rattle.conn_script.specs.declared.wants.TheConstants.{LIMIT, PIECE}
 use Rattle.conn_script.specs.declared.request.Whole.{Whole}
 use Rattle.conn_script.specs.declared.turn.Run.{Run}
 use Rattle.conn_script.specs.declared.undoing.Undoing.{Undoing}
+use Rattle.conn_script.specs.declared.undoing.Undoing.TheVariants as undo
+use Rattle.conn_script.specs.declared.turn.Run.TheVariants as runs
+use Rattle.conn_script.specs.declared.calling.Asked.TheVariants as asked
+use Rattle.conn_script.specs.declared.calling.Calling.TheVariants as calling
+use Rattle.conn_script.specs.declared.deleting.Deleting.TheVariants as deleting
+use Rattle.conn_script.specs.declared.relaying.Relaying.TheVariants as relaying
+use Rattle.conn_script.specs.declared.creating.Creating.TheVariants as creating
+use Rattle.node_client.specs.Carrying as carrying
 use Rattle.conn_script.specs.Asking.{IsOf}
 use Rattle.conn_script.specs.Begin.{BegunLacks}
 use Rattle.conn_script.specs.Responses.{continue_text}
 use Rattle.conn_script.specs.Wanted.{Wanted, to_read, to_write, to_begin, to_call, to_ask, to_pause, over, Shows, IsOver, IsScriptWant, Awaited, piece, count, begun, answer_to, Readies, Kind, kind_of, call_of, call_tokens}
-use Rattle.conn_script.specs.Running.{IsTaken, run_awaits, run_held, run_tokens}
+use Rattle.conn_script.specs.Running.{IsTaken, run_awaits, run_held, run_tokens, start_awaits}
 use Rattle.conn_script.specs.Moving.{AsksFor}
-use Rattle.conn_script.specs.Undo.{UndoAsksFor, IsUndoTaken, undo_awaits, undo_held, undo_tokens}
+use Rattle.conn_script.specs.Undo.{UndoAsksFor, IsUndoTaken, undo_awaits, undo_held, undo_leaves, undo_tokens}
 use Rattle.hub_conn.specs.declared.talk.Talk.{Talk}
 use Rattle.hub_conn.specs.declared.talk.State.{State}
 use Rattle.hub_conn.specs.declared.talk.State.TheVariants as states
 use Rattle.hub_conn.specs.declared.talk.Outgoing.{Outgoing}
 use Rattle.hub_conn.specs.Conversation.{MemoryBroke, before_request, Waits, none as none_yet}
 use Rattle.hub_conn.specs.Inbox.{unread, Holds, HoldsWhole}
-use Rattle.hub_conn.specs.Talk.{Rests, Answered, Standing, awaited, state_awaits, held, state_held, tokens, state_tokens, Cause, result_cause, blamed, state_cause, HandsOut, Says, Takes, IsHeld, IsNew, Settles, of_nothing}
+use Rattle.hub_conn.specs.Talk.{Rests, Answered, Standing, awaited, state_awaits, held, state_held, tokens, state_tokens, Cause, result_cause, blamed, state_cause, HandsOut, Says, Takes, IsHeld, IsNew, Settles, WaitsRightly, of_nothing}
 use Rattle.hub_conn.proofs.ReadLemmas.{WholeTakes}
-use Rattle.hub_conn.proofs.StateLemmas.{stands_in, in_state_of, counts_kept, settles_in}
+use Rattle.hub_conn.proofs.StateLemmas.{stands_in, in_state_of, counts_kept, leaves_in, settles_in}
 use Rattle.hub_conn.proofs.WorkLemmas.{run_kept, undo_kept}
 use Rattle.conn_script.specs.Creating.{no_start}
 use Rattle.hub_conn.proofs.GoLemmas.{front_kept, whole_some}
@@ -247,6 +255,64 @@ hands_done talk result e = record {
 
 -- ---- calls that are handed out
 
+run_withdraws_none : (r : Run) → run_awaits r ≡ answer_to Kind.withdraw → ⊥
+run_withdraws_none (runs.Calling (calling.Ask c asked)) e = cc
+run_withdraws_none (runs.Calling (calling.Asked asked.Register)) e = cc
+run_withdraws_none (runs.Calling (calling.Asked asked.Beat)) e = cc
+run_withdraws_none (runs.Calling (calling.Asked asked.Drain)) e = cc
+run_withdraws_none (runs.Calling (calling.Asked asked.Remove)) e = cc
+run_withdraws_none (runs.Calling (calling.Asked asked.Clear)) e = cc
+run_withdraws_none (runs.Calling (calling.Asked asked.Status)) e = cc
+run_withdraws_none (runs.Calling (calling.Asked asked.Queue)) e = cc
+run_withdraws_none (runs.Deleting (deleting.Lookup id)) e = cc
+run_withdraws_none (runs.Deleting (deleting.LookingUp id)) e = cc
+run_withdraws_none (runs.Deleting (deleting.End id b)) e = cc
+run_withdraws_none (runs.Deleting (deleting.Ending id b)) e = cc
+run_withdraws_none (runs.Deleting (deleting.Quit c path)) e = cc
+run_withdraws_none (runs.Deleting (deleting.Free c q)) e = cc
+run_withdraws_none (runs.Deleting (deleting.Freeing q)) e = cc
+run_withdraws_none (runs.Relaying (relaying.Lookup id target)) e = cc
+run_withdraws_none (runs.Relaying (relaying.LookingUp id target)) e = cc
+run_withdraws_none (runs.Relaying (relaying.Touch id b address target)) e = cc
+run_withdraws_none (runs.Relaying (relaying.Touching id b address target)) e = cc
+run_withdraws_none (runs.Relaying (relaying.Exchange address target)) e = cc
+run_withdraws_none (runs.Creating (creating.Enqueue choices)) e = cc
+run_withdraws_none (runs.Creating creating.Enqueuing) e = cc
+run_withdraws_none (runs.Creating (creating.Poll t)) e = cc
+run_withdraws_none (runs.Creating (creating.Polling n)) e = cc
+run_withdraws_none (runs.Creating (creating.Pausing t)) e = cc
+run_withdraws_none (runs.Creating (creating.Starting t carry)) e = start (carrying.awaited carry) e
+  where
+    start : (k : Option carrying.Kind) → start_awaits k ≡ answer_to Kind.withdraw → ⊥
+    start None x = cc
+    start (Some carrying.Exchange) x = cc
+    start (Some carrying.Bind) x = cc
+    start (Some carrying.Fail) x = cc
+    start (Some carrying.Freed) x = cc
+
+undo_withdraws : (u : Undoing) → undo_awaits u ≡ answer_to Kind.withdraw → undo_leaves u ≡ true
+undo_withdraws (undo.Withdraw t) e = refl
+undo_withdraws undo.Withdrawing e = refl
+undo_withdraws (undo.Waiting t) e = refl
+undo_withdraws (undo.End s b) e = absurd cc
+undo_withdraws (undo.Ending s b) e = absurd cc
+undo_withdraws (undo.Quit c path) e = absurd cc
+undo_withdraws (undo.Free c) e = absurd cc
+undo_withdraws undo.Freeing e = absurd cc
+undo_withdraws undo.Over e = absurd cc
+
+-- what awaits an answer of the hub waits for no pause
+waits_for_none : (u : Undoing) (k : Kind) (steps : List Step) → undo_awaits u ≡ answer_to k → WaitsRightly u steps
+waits_for_none (undo.Withdraw t) k steps e = tt
+waits_for_none undo.Withdrawing k steps e = tt
+waits_for_none (undo.Waiting t) k steps e = absurd cc
+waits_for_none (undo.End s b) k steps e = tt
+waits_for_none (undo.Ending s b) k steps e = tt
+waits_for_none (undo.Quit c path) k steps e = tt
+waits_for_none (undo.Free c) k steps e = tt
+waits_for_none undo.Freeing k steps e = tt
+waits_for_none undo.Over k steps e = tt
+
 pub takes_run : (old new : Talk) (r s : Run) (call : HubCall) → old.state ≡ states.Running r → IsTaken r call s → new.state ≡ states.Running s → Rests old new → Takes old call new
 takes_run old new r s call e taken at rests = record {
   waits = λ own w bytes steps written st.
@@ -255,6 +321,10 @@ takes_run old new r s call e taken at rests = record {
   keeps = tokens_in old (states.Running r) (run_tokens r) e refl ∙ taken.keeps
       ∙ ap (λ (ts : List Token). call_tokens (call_of call) ++ ts) (sym (tokens_in new (states.Running s) (run_tokens s) at refl));
   blames = blamed_in new (states.Running s) of_nothing at refl ∙ sym (blamed_in old (states.Running r) of_nothing e refl);
+  leaves_so = leaves_in new (states.Running s) at ∙ sym (leaves_in old (states.Running r) e);
+  withdraws = λ own w bytes steps written t st is.
+      let x = in_state_of old (states.Running r) own w bytes steps written e st in
+      absurd (run_withdraws_none s (subst (λ (c : HubCall). run_awaits s ≡ answer_to (kind_of (call_of c))) is (taken.waits x.in_state.0 x.aim w x.in_state.2.wants)));
   stands = λ own w bytes steps written st.
       let x = in_state_of old (states.Running r) own w bytes steps written e st in
       let f = x.in_state.0 in
@@ -301,12 +371,17 @@ takes_undo old new fault u v call e taken at = record {
   keeps = tokens_in old (states.Undoing fault u) (undo_tokens u) e refl ∙ taken.keeps
       ∙ ap (λ (ts : List Token). call_tokens (call_of call) ++ ts) (sym (tokens_in new (states.Undoing fault v) (undo_tokens v) at refl));
   blames = blamed_in new (states.Undoing fault v) (result_cause (Err fault)) at refl ∙ sym (blamed_in old (states.Undoing fault u) (result_cause (Err fault)) e refl);
+  leaves_so = leaves_in new (states.Undoing fault v) at ∙ taken.leaves_so ∙ sym (leaves_in old (states.Undoing fault u) e);
+  withdraws = λ own w bytes steps written t st is.
+      leaves_in old (states.Undoing fault u) e ∙ sym taken.leaves_so
+      ∙ undo_withdraws v (subst (λ (c : HubCall). undo_awaits v ≡ answer_to (kind_of (call_of c))) is taken.waits);
   stands = λ own w bytes steps written st.
       let x = in_state_of old (states.Undoing fault u) own w bytes steps written e st in
       let next = taken.wants w x.wants in (
         next.0,
         stands_in new (states.Undoing fault v) own w bytes steps written at (record {
           wants = next.1;
+          waits = waits_for_none v (kind_of (call_of call)) steps taken.waits;
           ends = λ undone y. x.ends undone (taken.leads w undone x.wants y);
         }),
       );
@@ -342,6 +417,7 @@ new_talk talk none empty state read begins frames short continued holds unfed = 
   fresh = settled.fresh;
   blames = settled.blames;
   no_tokens = settled.holds;
+  stays = settled.stays;
   stands = λ own. stands_in talk states.Reading own (to_read PIECE) [] [] [] state (record {
     rest = [];
     before = [];
@@ -371,7 +447,7 @@ new_talk talk none empty state read begins frames short continued holds unfed = 
 }
   where
     settled : Settles talk of_nothing []
-    settled = settles_in talk states.Reading of_nothing [] state refl refl refl
+    settled = settles_in talk states.Reading of_nothing [] state refl refl refl refl
 
     no : false ≡ true → ⊥
     no e = cc

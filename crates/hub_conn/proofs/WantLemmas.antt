@@ -29,12 +29,12 @@ use Rattle.conn_script.specs.Running.{RunWants, run_tokens, delete_tokens}
 use Rattle.conn_script.specs.Undo.{UndoWants, undo_tokens}
 use Rattle.conn_script.specs.NewSession.{poll_pause, settled}
 use Rattle.conn_script.specs.Messages.{outcome_response}
-use Rattle.conn_script.specs.Pauses.{PausesBehindPolls, ends_early, ends_early_behind, is_early_poll}
+use Rattle.conn_script.specs.Pauses.{PausesBehindEarlyCalls, ends_early, ends_early_behind, is_early_call}
 use Rattle.conn_script.specs.Wanted.{Wanted, to_read, to_write, to_begin, to_call, to_pause, over, call_of, call_tokens}
 use Rattle.hub_conn.specs.declared.talk.Talk.{Talk}
 use Rattle.hub_conn.specs.declared.talk.State.{State}
 use Rattle.hub_conn.specs.declared.talk.State.TheVariants as states
-use Rattle.hub_conn.specs.Talk.{Stands, StandsIn, UnderWay, tokens, state_tokens}
+use Rattle.hub_conn.specs.Talk.{Stands, StandsIn, UnderWay, WaitsRightly, tokens, state_tokens}
 
 -- ---- pauses
 
@@ -46,9 +46,9 @@ last_behind before [] e = absurd (never e)
 last_behind before (step ∷ steps) e = e
 
 -- the last step of the last steps is the last
-ends_last : (before : Bool) (steps more : List Step) → ends_early more ≡ true → ends_early_behind before (steps ++ more) ≡ true
+pub ends_last : (before : Bool) (steps more : List Step) → ends_early more ≡ true → ends_early_behind before (steps ++ more) ≡ true
 ends_last before [] more e = last_behind before more e
-ends_last before (step ∷ steps) more e = ends_last (is_early_poll step) steps more e
+ends_last before (step ∷ steps) more e = ends_last (is_early_call step) steps more e
 
 same_pause : (m n : ℕ) → to_pause m ≡ to_pause n → m ≡ n
 same_pause m n e = cc
@@ -72,20 +72,23 @@ relay_no_pause f (relaying.Touch id b address target) ms w = cc
 relay_no_pause f (relaying.Touching id b address target) ms w = cc
 relay_no_pause f (relaying.Exchange address target) ms w = cc
 
-undo_no_pause : (u : Undoing) (ms : ℕ) → UndoWants u (to_pause ms) → ⊥
-undo_no_pause (undo.End s b) ms w = cc
-undo_no_pause (undo.Ending s b) ms w = cc
-undo_no_pause (undo.Quit c path) ms w = cc
-undo_no_pause (undo.Free c) ms w = cc
-undo_no_pause undo.Freeing ms (c, w) = cc
-undo_no_pause undo.Over ms w = absurd w
+undo_pauses : (u : Undoing) (ms : ℕ) (steps : List Step) → UndoWants u (to_pause ms) → WaitsRightly u steps → (ms ≡ poll_pause) × (ends_early steps ≡ true)
+undo_pauses (undo.Withdraw t) ms steps w x = absurd (no_call (Call.withdraw t) ms w)
+undo_pauses undo.Withdrawing ms steps (t, w) x = absurd (no_call (Call.withdraw t) ms w)
+undo_pauses (undo.Waiting t) ms steps w x = (same_pause ms poll_pause w, x)
+undo_pauses (undo.End s b) ms steps w x = absurd (no_call (Call.end s b) ms w)
+undo_pauses (undo.Ending s b) ms steps w x = absurd (no_call (Call.end s b) ms w)
+undo_pauses (undo.Quit c path) ms steps w x = absurd cc
+undo_pauses (undo.Free c) ms steps w x = absurd (no_call (Call.freed c) ms w)
+undo_pauses undo.Freeing ms steps (c, w) x = absurd (no_call (Call.freed c) ms w)
+undo_pauses undo.Over ms steps w x = absurd w
 
 start_no_pause : (v : places.Wanted) (ms : ℕ) → want_of v (to_pause ms) → ⊥
 start_no_pause (places.to_ask address ask) ms w = cc
 start_no_pause (places.to_call call) ms w = cc
 start_no_pause (places.over e) ms w = absurd w
 
-run_pauses : PausesBehindPolls → (own : Option (List ℕ)) (f : Request) (r : Run) (aim : Aim) (ms : ℕ) (steps : List Step) → UnderWay own f r aim (to_pause ms) steps →
+run_pauses : PausesBehindEarlyCalls → (own : Option (List ℕ)) (f : Request) (r : Run) (aim : Aim) (ms : ℕ) (steps : List Step) → UnderWay own f r aim (to_pause ms) steps →
     RunWants f r aim (to_pause ms) → (ms ≡ poll_pause) × (ends_early steps ≡ true)
 run_pauses law own f (run.Calling (calling.Ask c asked)) aim ms steps x w = absurd (no_call (call_of c) ms w.1.0)
 run_pauses law own f (run.Calling (calling.Asked asked)) aim ms steps x w = absurd (no_call w.1.0 ms w.1.1)
@@ -117,7 +120,7 @@ no_begin_pause ms e = cc
 no_end_pause : (ms : ℕ) (result : Result Served ConnFault) → to_pause ms ≡ over result → ⊥
 no_end_pause ms result e = cc
 
-pub pauses : PausesBehindPolls → (talk : Talk) (own : Option (List ℕ)) (ms : ℕ) (bytes : List ℕ) (steps : List Step) (written : List ℕ) →
+pub pauses : PausesBehindEarlyCalls → (talk : Talk) (own : Option (List ℕ)) (ms : ℕ) (bytes : List ℕ) (steps : List Step) (written : List ℕ) →
     Stands talk own (to_pause ms) bytes steps written → (ms ≡ poll_pause) × (ends_early steps ≡ true)
 unfolding Stands
 pauses law talk own ms bytes steps written st = by_state talk.state st
@@ -130,7 +133,7 @@ pauses law talk own ms bytes steps written st = by_state talk.state st
         let told = run_pauses law own x.in_state.0 r x.aim ms x.mine x.in_state.2 x.in_state.2.wants in
         (told.0, subst (λ (s : List Step). ends_early s ≡ true) (sym x.steps_are) (ends_last false x.before x.mine told.1))
     by_state (states.Writing out) x = absurd (no_write_pause ms _ x.wants)
-    by_state (states.Undoing fault u) x = absurd (undo_no_pause u ms x.wants)
+    by_state (states.Undoing fault u) x = undo_pauses u ms steps x.wants x.waits
     by_state (states.Done result) x = absurd (no_end_pause ms result x.0)
 
 -- ---- a request that is queued
@@ -155,6 +158,9 @@ module _ (choices : List (List Cap)) where
   delete_holds_none (deleting.Freeing q) w = refl
 
   undo_holds_none : (u : Undoing) → UndoWants u queues → undo_tokens u ≡ []
+  undo_holds_none (undo.Withdraw t) w = absurd cc
+  undo_holds_none undo.Withdrawing w = refl
+  undo_holds_none (undo.Waiting t) w = absurd cc
   undo_holds_none (undo.End s b) w = refl
   undo_holds_none (undo.Ending s b) w = refl
   undo_holds_none (undo.Quit c path) w = absurd cc
@@ -236,6 +242,9 @@ relay_no_read f (relaying.Touching id b address target) most w = cc
 relay_no_read f (relaying.Exchange address target) most w = cc
 
 undo_no_read : (u : Undoing) (most : ℕ) → UndoWants u (to_read most) → ⊥
+undo_no_read (undo.Withdraw t) most w = cc
+undo_no_read undo.Withdrawing most (t, w) = cc
+undo_no_read (undo.Waiting t) most w = cc
 undo_no_read (undo.End s b) most w = cc
 undo_no_read (undo.Ending s b) most w = cc
 undo_no_read (undo.Quit c path) most w = cc

@@ -1,7 +1,7 @@
 -- That each answer lowers what is left to do.
 use Rattle.std.proofs.Common.{◌≡◌, ℕ, ◌+◌, ◌-◌, ◌*◌, ◌^◌, ◌<◌, ◌≤◌, Bool, true, false, List, length, sym, ap, ◌∙◌, subst, arith}
 use Rattle.std.specs.Borrow.{Bor}
-use Rattle.std.specs.Prelude.{Result}
+use Rattle.std.specs.Prelude.{Result, Err}
 use Rattle.conn_script.specs.declared.wants.Answer.{Answer}
 use Rattle.conn_script.specs.declared.wants.Answer.TheVariants as told
 use Rattle.conn_script.specs.declared.wants.ConnFault.{ConnFault}
@@ -12,7 +12,7 @@ use Rattle.conn_script.specs.declared.turn.Run.{Run}
 use Rattle.conn_script.specs.declared.turn.Turn.{Turn}
 use Rattle.conn_script.specs.declared.turn.Turn.TheVariants as turn
 use Rattle.conn_script.specs.declared.undoing.Undoing.{Undoing}
-use Rattle.conn_script.specs.Work.{Outlook, KeepsWork as KeepsRunWork, RunsLess, run_work, turn_work, undo_work, queue_work}
+use Rattle.conn_script.specs.Work.{Outlook, KeepsWork as KeepsRunWork, RunsLess, UndoesLess, LeavesLittle, run_work, turn_work, undo_work, queue_work}
 use Rattle.hub_conn.specs.declared.talk.Talk.{Talk}
 use Rattle.hub_conn.specs.declared.talk.State.{State}
 use Rattle.hub_conn.specs.declared.talk.State.TheVariants as states
@@ -21,7 +21,7 @@ use Rattle.hub_conn.specs.declared.talk.Kept.{Kept}
 use Rattle.hub_conn.specs.declared.talk.Then.{Then}
 use Rattle.hub_conn.specs.declared.talk.Then.TheVariants as after
 use Rattle.hub_conn.specs.Talk.{Rests}
-use Rattle.hub_conn.specs.Work.{work, bytes_left, byte_work, unsent_left, write_work, state_work, read_work, begin_work, look_work, then_work, FeedsLess, KeepsWork, LeavesAtMost, TurnsTo, SendsSome, ContinuesSome}
+use Rattle.hub_conn.specs.Work.{work, bytes_left, byte_work, unsent_left, write_work, state_work, read_work, begin_work, look_work, then_work, FeedsLess, KeepsWork, LeavesAtMost, LeavesUndoing, TurnsTo, SendsSome, ContinuesSome}
 
 -- ---- by the state
 
@@ -269,14 +269,31 @@ turn_less old mid new run answer t e rests less h before later x =
     falls : (m a b : ℕ) → a < b → m + (2 ^ 66 + a) < m + (2 ^ 66 + b)
     falls m a b p = omega (arith, p)
 
-pub undo_feeds : (old new : Talk) (fault : ConnFault) (u v : Undoing) (answer : Answer) → old.state ≡ states.Undoing fault u → undo_work v < undo_work u →
-    LeavesAtMost (1 + undo_work v) new → FeedsLess old answer new
+pub undo_feeds : (old new : Talk) (fault : ConnFault) (u v : Undoing) (answer : Answer) → old.state ≡ states.Undoing fault u → UndoesLess u answer v →
+    LeavesUndoing v new → FeedsLess old answer new
 undo_feeds old new fault u v answer e less h before later x =
     less_in old new (states.Undoing fault u) before later e
-    (at_most_below (work new later) (1 + undo_work v) (1 + undo_work u) (h later) (falls (undo_work v) (undo_work u) less))
+    (at_most_below (work new later) (1 + undo_work v later) (1 + undo_work u before) (h later) (falls (undo_work v later) (undo_work u before) (less before later x)))
   where
     falls : (a b : ℕ) → a < b → 1 + a < 1 + b
     falls a b p = omega (arith, p)
+
+-- what is left to do after the fault
+pub undoing_leaves : (new : Talk) (fault : ConnFault) (u : Undoing) → new.state ≡ states.Undoing fault u → LeavesUndoing u new
+undoing_leaves new fault u e o = same_at_most (work new o) (1 + undo_work u o) (1 + undo_work u o) (work_in new (states.Undoing fault u) o e) (self_at_most (1 + undo_work u o))
+
+pub undone_leaves : (new : Talk) (fault : ConnFault) (u : Undoing) → new.state ≡ states.Done (Err fault) → LeavesUndoing u new
+undone_leaves new fault u e o = at_most (work new o) 0 (1 + undo_work u o) (done_leaves 0 new (Err fault) e o) (omega arith)
+
+-- a client that has left
+pub gone_less : (old new : Talk) (run : Run) (u : Undoing) → old.state ≡ states.Running run → LeavesLittle run u → LeavesUndoing u new → FeedsLess old told.Gone new
+gone_less old new run u e little h before later x =
+    less_in old new (states.Running run) before later e
+    (at_most_below (work new later) (1 + undo_work u later) (byte_work * bytes_left old + (2 ^ 66 + run_work run before)) (h later)
+    (falls (byte_work * bytes_left old) (undo_work u later) (run_work run before) (little before later x)))
+  where
+    falls : (m a b : ℕ) → a ≤ b + 3 → 1 + a < m + (2 ^ 66 + b)
+    falls m a b p = omega (arith, p)
 
 -- ---- a call that is handed out
 
@@ -285,7 +302,7 @@ run_kept old new r s e at rests keeps o =
     work_in new (states.Running s) o at ∙ ap (λ (m : ℕ). byte_work * m + (2 ^ 66 + run_work s o)) (bytes_kept old new rests)
     ∙ ap (λ (m : ℕ). byte_work * bytes_left old + (2 ^ 66 + m)) (keeps o) ∙ sym (work_in old (states.Running r) o e)
 
-pub undo_kept : (old new : Talk) (fault : ConnFault) (u v : Undoing) → old.state ≡ states.Undoing fault u → new.state ≡ states.Undoing fault v → undo_work v ≡ undo_work u →
+pub undo_kept : (old new : Talk) (fault : ConnFault) (u v : Undoing) → old.state ≡ states.Undoing fault u → new.state ≡ states.Undoing fault v → ((o : Outlook) → undo_work v o ≡ undo_work u o) →
     KeepsWork old new
 undo_kept old new fault u v e at keeps o =
-    work_in new (states.Undoing fault v) o at ∙ ap (λ (m : ℕ). 1 + m) keeps ∙ sym (work_in old (states.Undoing fault u) o e)
+    work_in new (states.Undoing fault v) o at ∙ ap (λ (m : ℕ). 1 + m) (keeps o) ∙ sym (work_in old (states.Undoing fault u) o e)

@@ -1,5 +1,5 @@
 -- Responses that are written.
-use Rattle.std.proofs.Common.{◌≡◌, ℕ, zero, suc, ◌+◌, ◌-◌, ◌<◌, Bool, true, false, List, [], ◌∷◌, ◌++◌, length, take, drop, refl, sym, ap, ◌∙◌, subst, arith, append-nil, append_assoc, length-append, length-drop}
+use Rattle.std.proofs.Common.{◌≡◌, ◌≢◌, ℕ, zero, suc, ◌+◌, ◌-◌, ◌<◌, Bool, true, false, List, [], ◌∷◌, ◌++◌, length, take, drop, refl, sym, ap, ◌∙◌, subst, arith, append-nil, append_assoc, length-append, length-drop}
 use Rattle.std.specs.Prelude.{Option, Ok, Err}
 use Rattle.std.proofs.lemmas.List.{take-append-drop, drop-drop, take_all}
 use Rattle.std.proofs.Math.Seq.{drop-nil}
@@ -10,7 +10,7 @@ use Rattle.conn_script.specs.declared.wants.End.{End}
 use Rattle.conn_script.specs.declared.wants.End.TheVariants as ends
 use Rattle.conn_script.specs.declared.wants.ConnFault.TheVariants as faults
 use Rattle.conn_script.specs.declared.wants.TheConstants.{PIECE}
-use Rattle.conn_script.specs.Responses.{Response, bytes_of, continue_text, is_last}
+use Rattle.conn_script.specs.Responses.{Response, bytes_of, continue_text, created, hub_spent, is_last, left as no_response}
 use Rattle.conn_script.specs.Undo.{Undoes}
 use Rattle.conn_script.specs.Wanted.{Wanted, to_write}
 use Rattle.hub_conn.specs.declared.inbox.Inbox.{Inbox}
@@ -25,7 +25,7 @@ use Rattle.hub_conn.specs.Conversation.{Scripts, Talked, asked, hub_spent as end
 use Rattle.hub_conn.specs.Inbox.{Holds, HoldsSome, HoldsWhole, LeavesRest}
 use Rattle.hub_conn.specs.Talk.{SameBut, Rests, EndsUndone, Answered, Standing, Writes, IsWriting, kept_undoes, IsComplete, Keeps, IsBetween, Responds, ThenAfter, StandsNow, SendsBy, SentAll, BreaksOff}
 use Rattle.hub_conn.proofs.ReadLemmas.{WholeTakes, reads_more, begins_more, frames_asked}
-use Rattle.hub_conn.proofs.ScriptLemmas.{scripts_more, scripts_last, response_some}
+use Rattle.hub_conn.proofs.ScriptLemmas.{scripts_more, scripts_last, response_some, is_of_spent_hub}
 use Rattle.hub_conn.proofs.StateLemmas.{stands_in, done_stands, counts_kept}
 use Rattle.hub_conn.proofs.EndLemmas.{settled_all}
 
@@ -105,7 +105,7 @@ talked_asked talk new own f response bytes behind steps written text x whole las
 }
 
 talked_spent : (talk new : Talk) (own : Option (List ℕ)) (f : Request) (response : Response) (bytes behind : List ℕ) (steps : List Step) (written text : List ℕ) →
-    (x : IsComplete talk own f response bytes steps written) → IsWhole LIMITS x.rest f.0 f.1 behind → is_last response ≡ true →
+    (x : IsComplete talk own f response bytes steps written) → IsWhole LIMITS x.rest f.0 f.1 behind → response ≡ hub_spent →
     new.frames ≡ talk.frames + 1 → new.short ≡ met_want steps → text ≡ bytes_of response (closes f.0) →
     Talked own (record { frames = new.frames; end = ends.HubSpent; short = new.short }) bytes steps (written ++ text)
 talked_spent talk new own f response bytes behind steps written text x whole last count short text_is = record {
@@ -135,11 +135,16 @@ pub record Begins (old new : Talk) (text : List ℕ) (k : Kept) (what_next : The
   pub continued : new.continued ≡ false
   pub leaves : (rest : List ℕ) (f : Request) → HoldsWhole old.inbox rest f → LeavesRest rest f left new.inbox
 
+-- there is a response
+there : (k : Kept) (response : Response) → Keeps k response → response ≢ no_response
+there kept.Nothing response keeps e = subst (λ (r : Response). Undoes r []) e keeps
+there (kept.Created session binding) response keeps e = let never : created session keeps.0 binding ≡ no_response = sym keeps.1 ∙ e in cc
+
 pub responds : WholeTakes → (old new : Talk) (text : List ℕ) (last : Bool) (k : Kept) (what_next : Then) (left : ℕ) → Begins old new text k what_next left →
     ThenAfter last old.closes what_next → Responds old text last k new
 responds takes old new text last k what_next left b following own f response bytes steps written x keeps last_is text_is =
     let l = b.leaves x.rest f x.at_front.holds in
-    let some : 0 < length text = subst (λ (t : List ℕ). 0 < length t) (sym text_is) (response_some response (closes f.0)) in
+    let some : 0 < length text = subst (λ (t : List ℕ). 0 < length t) (sym text_is) (response_some response (closes f.0) (there k response keeps)) in
     let short : new.short ≡ met_want steps = b.short ∙ x.short in (
       to_write (take PIECE text),
       stands_in new (states.Writing (record { bytes = text; sent = 0; then = what_next; kept = k })) own (to_write (take PIECE text)) bytes steps written b.state (record {
@@ -158,7 +163,7 @@ responds takes old new text last k what_next left b following own f response byt
         IsWriting what_next new own bytes steps (written ++ text)
     goes_on true closing what_next e is close l =
         subst (λ (t : Then). IsWriting t new own bytes steps (written ++ text)) (sym e)
-        (talked_spent old new own f response bytes l.0 steps written text x l.1 (sym is) b.frames (b.short ∙ x.short) text_is, refl, (l.0, l.2))
+        (talked_spent old new own f response bytes l.0 steps written text x l.1 (is_of_spent_hub response (sym is) (there k response keeps)) b.frames (b.short ∙ x.short) text_is, refl, (l.0, l.2))
     goes_on false true what_next e is close l =
         subst (λ (t : Then). IsWriting t new own bytes steps (written ++ text)) (sym e)
         (talked_asked old new own f response bytes l.0 steps written text x l.1 (sym close) (sym is) b.frames (b.short ∙ x.short) text_is, refl, (l.0, l.2))

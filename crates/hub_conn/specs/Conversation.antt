@@ -12,6 +12,7 @@ use Rattle.conn_script.specs.declared.wants.ConnFault.{ConnFault}
 use Rattle.conn_script.specs.declared.wants.ConnFault.TheVariants as faults
 use Rattle.conn_script.specs.declared.wants.Served.{Served}
 use Rattle.conn_script.specs.declared.wants.TheConstants.{LIMIT}
+use Rattle.conn_script.specs.Responses as said
 use Rattle.conn_script.specs.Responses.{Response, bytes_of, continue_text, is_last}
 use Rattle.conn_script.specs.Messages.{refusal}
 use Rattle.conn_script.specs.Script.{Script, Lacks}
@@ -34,7 +35,7 @@ pub record Answers (own : Option (List ℕ)) (f : Request) (steps : List Step) (
 -- be in the last.
 pub data Scripts (own : Option (List ℕ)) : List Request → List Step → List ℕ → Bool → Type 0 where
   none : Scripts own [] [] [] false
-  last_spent : (f : Request) (steps : List Step) (response : Response) → is_last response ≡ true →
+  last_spent : (f : Request) (steps : List Step) (response : Response) → response ≡ said.hub_spent →
       Answers own f steps response → Scripts own (f ∷ []) steps (answer_text f response) true
   next : (f : Request) (requests : List Request) (steps more : List Step) (response : Response) (written : List ℕ) (spent : Bool) →
       is_last response ≡ false → Answers own f steps response → Scripts own requests more written spent →
@@ -141,6 +142,23 @@ pub record MemoryBroke (own : Option (List ℕ)) (bytes : List ℕ) (steps : Lis
   pub lacks : LacksBehind own rest behind
   pub steps_are : steps ≡ before ++ behind
 
+-- A client left while its New Session waited: the requests before that one are answered, its own steps are made, with no response,
+-- and of what is written for it there is at most the `100 Continue` that it waited for.
+pub record LeftOff (own : Option (List ℕ)) (bytes : List ℕ) (steps : List Step) (written : List ℕ) : Type 0 where
+  pub requests : List Request
+  pub rest : List ℕ
+  pub begins : ReadsTo bytes requests rest
+  pub responses : List ℕ
+  pub before : List Step
+  pub scripts : Scripts own requests before responses false
+  pub f : Request
+  pub behind : List ℕ
+  pub whole : IsWhole LIMITS rest f.0 f.1 behind
+  pub mine : List Step
+  pub answers : Answers own f mine said.left
+  pub steps_are : steps ≡ before ++ mine
+  pub written_is : written ≡ responses ++ continue_text (expects LIMITS f.0)
+
 -- an end of input that may still be
 abbrev pub IsOpen : End → Type 0
 IsOpen ends.Closed = Unit {0}
@@ -151,9 +169,10 @@ IsOpen e = ⊥
 abbrev pub IsUnended : Option (List ℕ) → List ℕ → List Step → List ℕ → Type 0
 IsUnended own bytes steps written = (served : Served) × IsOpen served.end × Talked own served bytes steps written
 
--- A conversation that is over: whole, or cut short by a fault. After a failed read it is that of the bytes before.
+-- A conversation that is over: whole, or cut short by a fault. After a failed read it is that of the bytes before; a client that left
+-- counts as one.
 abbrev pub Finished : Option (List ℕ) → Result Served ConnFault → List ℕ → List Step → List ℕ → Type 0
 Finished own (Ok served) bytes steps written = Talked own served bytes steps written
-Finished own (Err faults.Read) bytes steps written = IsUnended own bytes steps written
+Finished own (Err faults.Read) bytes steps written = IsUnended own bytes steps written ⊎ LeftOff own bytes steps written
 Finished own (Err faults.Write) bytes steps written = WriteBroke own bytes steps written
 Finished own (Err faults.Memory) bytes steps written = MemoryBroke own bytes steps written

@@ -4,7 +4,6 @@ use Rattle.node_client.specs.Steps.{Step}
 use Rattle.conn_script.specs.declared.wants.End.{End}
 use Rattle.conn_script.specs.declared.wants.End.TheVariants as ends
 use Rattle.conn_script.specs.declared.wants.ConnFault.{ConnFault}
-use Rattle.conn_script.specs.declared.wants.ConnFault.TheVariants as faults
 use Rattle.conn_script.specs.declared.wants.Served.{Served}
 use Rattle.conn_script.specs.SpentLooks.{FindsSpent}
 use Rattle.hub_conn.specs.Conversation.{Finished}
@@ -13,12 +12,10 @@ abbrev pub is_hub_spent : End → Bool
 is_hub_spent ends.HubSpent = true
 is_hub_spent end = false
 
--- What the result tells of it. A failed write and out of memory may come after the hub was found spent, or before.
+-- What the result tells of it. A fault may come after the hub was found spent, or before.
 abbrev pub TellsSpent : Result Served ConnFault → Bool → Type 0
 TellsSpent (Ok served) spent = spent ≡ is_hub_spent served.end
-TellsSpent (Err faults.Read) spent = spent ≡ false
-TellsSpent (Err faults.Write) spent = Unit {0}
-TellsSpent (Err faults.Memory) spent = Unit {0}
+TellsSpent (Err fault) spent = Unit {0}
 
 -- it found the hub spent at no step, or at the last alone
 pub record SpentAtEnd (result : Result Served ConnFault) (steps : List Step) : Type 0 where

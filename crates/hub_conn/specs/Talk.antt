@@ -1,5 +1,5 @@
 -- What a connection stands for, and what its calls do.
-use Rattle.std.specs.Prelude.{◌≡◌, ℕ, ◌+◌, ◌-◌, ◌<◌, ◌≤◌, min, Bool, true, false, List, [], ◌++◌, length, take, drop, Option, None, Result, Ok, Err, IfOk, IsTrue, is_some}
+use Rattle.std.specs.Prelude.{◌≡◌, ℕ, ◌+◌, ◌-◌, ◌<◌, ◌≤◌, ◌≢◌, min, Bool, true, false, List, [], ◌++◌, length, take, drop, Option, None, Result, Ok, Err, IfOk, IsTrue, is_some}
 use Rattle.std.specs.Borrow.{Bor}
 use Rattle.http_frames.specs.declared.FrameFault.{FrameFault}
 use Rattle.http_frames.specs.declared.frames.TheConstants.{LIMITS}
@@ -9,9 +9,11 @@ use Rattle.grid_outside.specs.Exchanges.{is_within}
 use Rattle.node_client.specs.Held.{Token}
 use Rattle.node_client.specs.Steps.{Step, met_want}
 use Rattle.grid_types.specs.declared.capabilities.Cap.{Cap}
+use Rattle.grid_types.specs.Tokens.{Ticket}
 use Rattle.conn_script.specs.declared.wants.Want.{Want}
 use Rattle.conn_script.specs.declared.wants.Want.TheVariants as wants
 use Rattle.conn_script.specs.declared.wants.HubCall.{HubCall}
+use Rattle.conn_script.specs.declared.wants.HubCall.TheVariants as calls
 use Rattle.conn_script.specs.declared.wants.Answer.{Answer}
 use Rattle.conn_script.specs.declared.wants.Answer.TheVariants as told
 use Rattle.conn_script.specs.declared.wants.End.{End}
@@ -25,7 +27,10 @@ use Rattle.conn_script.specs.declared.turn.Run.TheVariants as run
 use Rattle.conn_script.specs.declared.turn.Turn.TheVariants as turns
 use Rattle.conn_script.specs.declared.turn.Turn.{Turn}
 use Rattle.conn_script.specs.declared.undoing.Undoing.{Undoing}
-use Rattle.conn_script.specs.Undo.{Undoes, EndsCreated, UndoWants, UndoFollows, UndoLeads, undo_awaits, undo_held, undo_tokens, undo_goes_on}
+use Rattle.conn_script.specs.declared.undoing.Undoing.TheVariants as undoing
+use Rattle.conn_script.specs.Ends.{EndsCreated}
+use Rattle.conn_script.specs.Pauses.{ends_early}
+use Rattle.conn_script.specs.Undo.{Undoes, UndoWants, UndoFollows, UndoLeads, undo_awaits, undo_held, undo_tokens, undo_goes_on, undo_leaves}
 use Rattle.conn_script.specs.Responses.{Response, created, continue_text, bytes_of, is_last}
 use Rattle.conn_script.specs.Script.{Script, Lacks}
 use Rattle.conn_script.specs.Begin.{Begun, BegunLacks}
@@ -55,6 +60,7 @@ pub data Cause : Type 0 where
 
 abbrev pub cause_of : Answer → Cause
 cause_of told.ReadFailed = of_read
+cause_of told.Gone = of_read
 cause_of told.WriteFailed = of_write
 cause_of told.EndOfInput = of_end
 cause_of answer = of_nothing
@@ -162,9 +168,15 @@ pub record Writes (talk : Talk) (out : Outgoing) (own : Option (List ℕ)) (w : 
   pub breaks : (taken left : List ℕ) (undone : List Step) → unsent ≡ taken ++ left → 0 < length left → kept_undoes out.kept undone →
       WriteBroke own bytes (steps ++ undone) (written ++ taken)
 
--- a fault ends it, once what is left to do for a session that was created is done
+-- it waits only right behind a withdrawal that was told to
+abbrev pub WaitsRightly : Undoing → List Step → Type 0
+WaitsRightly (undoing.Waiting t) steps = ends_early steps ≡ true
+WaitsRightly u steps = Unit {0}
+
+-- a fault ends it, once what is left to do for a request that is withdrawn, or for a session that was created, is done
 pub record IsUndoing (fault : ConnFault) (u : Undoing) (own : Option (List ℕ)) (w : Wanted) (bytes : List ℕ) (steps : List Step) (written : List ℕ) : Type 0 where
   pub wants : UndoWants u w
+  pub waits : WaitsRightly u steps
   pub ends : (undone : List Step) → UndoFollows u w undone → Finished own (Err fault) bytes (steps ++ undone) written
 
 abbrev pub StandsIn : State → Talk → Option (List ℕ) → Wanted → List ℕ → List Step → List ℕ → Type 0
@@ -228,6 +240,14 @@ state_tokens state = []
 unfoldable pub tokens : Talk → List Token
 tokens talk = state_tokens talk.state
 
+abbrev pub state_leaves : State → Bool
+state_leaves (states.Undoing fault u) = undo_leaves u
+state_leaves state = false
+
+-- its client has left, and its request is being withdrawn
+unfoldable pub leaves : Talk → Bool
+leaves talk = state_leaves talk.state
+
 -- ---- how many bytes it holds
 
 abbrev pub state_writes : State → ℕ
@@ -263,7 +283,7 @@ is_serving_in (states.Undoing fault u) = false
 is_serving_in (states.Done result) = false
 is_serving_in state = true
 
--- it is not over, and no session is ended after a fault
+-- it is not over, and nothing is done after a fault
 unfoldable pub is_serving : Talk → Bool
 is_serving talk = is_serving_in talk.state
 
@@ -295,6 +315,7 @@ pub record IsNew (talk : Talk) : Type 0 where
   pub fresh : is_fresh talk ≡ true
   pub blames : blamed talk ≡ of_nothing
   pub no_tokens : tokens talk ≡ []
+  pub stays : leaves talk ≡ false
   pub stands : (own : Option (List ℕ)) → Stands talk own (to_read PIECE) [] [] []
 
 -- what a want says: at the end how it ended, with no token left but where the hub is spent; before a read that no request
@@ -321,12 +342,16 @@ pub record HandsOut (talk : Talk) (want : Want) : Type 0 where
   pub few : (text : Bor (List ℕ)) → want ≡ wants.Write text → length text.now ≤ PIECE
   pub blames : (result : Result Served ConnFault) → want ≡ wants.Done result → result_cause result ≡ blamed talk
 
--- a call is handed out, with its tokens; the value stands for the same, awaits the answer, and has as much left to do
+-- A call is handed out, with its tokens; the value stands for the same, awaits the answer, and has as much left to do. A withdrawal
+-- is handed out only where the client has left.
 pub record Takes (old : Talk) (call : HubCall) (new : Talk) : Type 0 where
   pub waits : (own : Option (List ℕ)) (w : Wanted) (bytes : List ℕ) (steps : List Step) (written : List ℕ) → Stands old own w bytes steps written →
       awaited new ≡ answer_to (kind_of (call_of call))
   pub keeps : tokens old ≡ wanted_tokens (to_call (call_of call)) ++ tokens new
   pub blames : blamed new ≡ blamed old
+  pub leaves_so : leaves new ≡ leaves old
+  pub withdraws : (own : Option (List ℕ)) (w : Wanted) (bytes : List ℕ) (steps : List Step) (written : List ℕ) (t : Ticket) →
+      Stands old own w bytes steps written → call ≡ calls.Withdraw t → leaves old ≡ true
   pub stands : (own : Option (List ℕ)) (w : Wanted) (bytes : List ℕ) (steps : List Step) (written : List ℕ) →
       Stands old own w bytes steps written → (w ≡ to_call (call_of call)) × Stands new own w bytes steps written
   pub work_is : KeepsWork old new
@@ -336,6 +361,7 @@ pub record IsRested (old new : Talk) : Type 0 where
   pub fresh : is_fresh new ≡ is_fresh old
   pub blames : blamed new ≡ blamed old
   pub keeps : tokens new ≡ tokens old
+  pub leaves_so : leaves new ≡ leaves old
   pub awaits : awaited new ≡ awaited old
   pub holds : held new ≡ held old
   pub stands : (own : Option (List ℕ)) (w : Wanted) (bytes : List ℕ) (steps : List Step) (written : List ℕ) →
@@ -367,11 +393,13 @@ pub record FeedsFew (old : Talk) (answer : Answer) (new : Talk) : Type 0 where
       Stands old own w bytes steps written → Fits answer w → Made own answer w made → relays old ≡ true → IsWithin answer → writes_bytes new ≤ most_passed_on
   pub stays : (n : ℕ) → answer ≡ told.Wrote n → HasLeft old.state n → writes_bytes new ≡ writes_bytes old
 
--- whatever it stood for, it stands for that with these bytes, steps and written bytes at the end, and has less left to do
+-- Whatever it stood for, it stands for that with these bytes, steps and written bytes at the end, and has less left to do. No request
+-- is withdrawn of which the client wasn't told to have left.
 pub record Feeds (old : Talk) (answer : Answer) (new : Talk) : Type 0 where
   pub fresh : is_fresh new ≡ true
   pub blames : blamed new ≡ cause_after (blamed old) answer
   pub keeps : KeepsTokens old answer new
+  pub stays : answer ≢ told.Gone → leaves old ≡ false → leaves new ≡ false
   pub stands : (own : Option (List ℕ)) (w : Wanted) (bytes : List ℕ) (steps : List Step) (written : List ℕ) (made : List Step) →
       Stands old own w bytes steps written → Fits answer w → Made own answer w made →
       (next : Wanted) × Stands new own next (bytes ++ bytes_in answer) (steps ++ made) (written ++ taken_of answer w)
@@ -387,11 +415,12 @@ TurnWrites (turns.RespondLast bytes short) new = writes_bytes new ≡ length byt
 TurnWrites (turns.Created bytes session binding) new = writes_bytes new ≡ length bytes
 TurnWrites turn new = writes_bytes new ≡ 0
 
--- a value that may be asked what it wants, with this cause and these tokens
+-- a value that may be asked what it wants, with this cause and these tokens; no request is withdrawn
 pub record Settles (new : Talk) (cause : Cause) (held : List Token) : Type 0 where
   pub fresh : is_fresh new ≡ true
   pub blames : blamed new ≡ cause
   pub holds : tokens new ≡ held
+  pub stays : leaves new ≡ false
 
 -- it ended with this fault, or so
 abbrev pub HasFailed : Talk → ConnFault → Talk → Type 0
@@ -528,7 +557,7 @@ GoesOn old turn new = (own : Option (List ℕ)) (bytes : List ℕ) (steps : List
 abbrev pub FirstOf : Talk → Turn → Type 0
 FirstOf talk turn = (rest : List ℕ) (f : Request) → HoldsWhole talk.inbox rest f → FirstTurn f turn talk.closes
 
--- ---- the end of a session that was created
+-- ---- what is done after a fault
 
 -- the fault ends it, once these steps are done
 abbrev pub EndsUndone : ConnFault → List ℕ → ℕ → Talk → Type 0
@@ -536,9 +565,16 @@ EndsUndone fault session binding new = (own : Option (List ℕ)) (bytes : List �
     ((undone : List Step) → EndsCreated session binding undone → Finished own (Err fault) bytes (steps ++ undone) written) →
     StandsNow new own bytes steps written
 
+-- a value that may be asked what it wants, with what is left to do after this fault
+pub record SettlesUndoing (new : Talk) (fault : ConnFault) (u : Undoing) : Type 0 where
+  pub fresh : is_fresh new ≡ true
+  pub blames : blamed new ≡ result_cause (Err fault)
+  pub holds : tokens new ≡ undo_tokens u
+  pub leaves_so : leaves new ≡ undo_leaves u
+
 abbrev pub HasUndone : ConnFault → Undoing → Talk → Type 0
 HasUndone fault u new = (own : Option (List ℕ)) (bytes : List ℕ) (steps : List Step) (written : List ℕ) →
-    UndoLeads u (λ more. Finished own (Err fault) bytes (steps ++ more) written) → StandsNow new own bytes steps written
+    WaitsRightly u steps → UndoLeads u (λ more. Finished own (Err fault) bytes (steps ++ more) written) → StandsNow new own bytes steps written
 
 -- ---- bytes that were taken
 

@@ -10,8 +10,8 @@ use Rattle.conn_script.specs.declared.wants.TheConstants.{LIMIT}
 use Rattle.hub_conn.specs.declared.talk.Talk.{Talk}
 use Rattle.hub_conn.specs.Talk.{Stands, tokens}
 
--- A pause is wanted between two polls of a request, right behind one that was told to wait or found no memory. A request is queued while no token is held. What is
--- read stays within the limit of a connection.
+-- A pause is wanted between two polls or withdrawals of a request, right behind one that was told to wait or a poll that found no
+-- memory. A request is queued while no token is held. What is read stays within the limit of a connection.
 pub record WantLaws : Type 0 where
   pub pauses : (talk : Talk) (own : Option (List ℕ)) (ms : ℕ) (bytes : List ℕ) (steps : List Step) (written : List ℕ) →
       Stands talk own (to_pause ms) bytes steps written → (ms ≡ poll_pause) × (ends_early steps ≡ true)

@@ -3,6 +3,7 @@ use Rattle.std.specs.Prelude.{◌≡◌, ℕ, ◌+◌, ◌-◌, ◌*◌, ◌^◌
 use Rattle.conn_script.specs.declared.wants.TheConstants.{LIMIT}
 use Rattle.conn_script.specs.declared.wants.Answer.{Answer}
 use Rattle.conn_script.specs.declared.turn.Turn.{Turn}
+use Rattle.conn_script.specs.declared.undoing.Undoing.{Undoing}
 use Rattle.conn_script.specs.Work.{Outlook, Lowers, run_work, turn_work, undo_work}
 use Rattle.hub_conn.specs.declared.talk.Talk.{Talk}
 use Rattle.hub_conn.specs.declared.talk.Outgoing.{Outgoing}
@@ -35,7 +36,7 @@ state_work (states.Continuing sent) bytes o = byte_work * bytes + (2 ^ 72 + (25 
 state_work states.Beginning bytes o = byte_work * bytes + 2 ^ 71
 state_work (states.Running run) bytes o = byte_work * bytes + (2 ^ 66 + run_work run o)
 state_work (states.Writing out) bytes o = write_work out.then (unsent_left out) bytes
-state_work (states.Undoing fault u) bytes o = 1 + undo_work u
+state_work (states.Undoing fault u) bytes o = 1 + undo_work u o
 state_work (states.Done result) bytes o = 0
 
 unfoldable pub work : Talk → Outlook → ℕ
@@ -59,6 +60,10 @@ begin_work bytes = byte_work * bytes + 2 ^ 71
 
 abbrev pub LeavesAtMost : ℕ → Talk → Type 0
 LeavesAtMost n new = (o : Outlook) → work new o ≤ n
+
+-- of what is left to do after a fault
+abbrev pub LeavesUndoing : Undoing → Talk → Type 0
+LeavesUndoing u new = (o : Outlook) → work new o ≤ 1 + undo_work u o
 
 -- of bytes that are looked at, where `100 Continue` was written or not
 abbrev pub look_work : Bool → ℕ → ℕ

@@ -3,7 +3,7 @@ ghost use Rattle.hub_conn.specs.CallLaws.{CallLaws};
 ghost use Rattle.hub_conn.specs.SpentLaws.{SpentLaws};
 ghost use Rattle.hub_conn.specs.WantLaws.{WantLaws};
 
-use conn_script::{scripts_find_spent_last, scripts_pause_behind_polls};
+use conn_script::{scripts_find_spent_last, scripts_pause_behind_early_calls};
 use node_client::starts_stand_by_their_wants;
 
 /// A call that is wanted spends no token but its own, and brings what the hub asks of it; between scripts no token is held.
@@ -13,18 +13,17 @@ pub fn calls_are_rightful()
     starts_stand_by_their_wants();
 }
 
-/// A conversation that is over found the hub spent at its last step or not at all, and its result tells which where it is an end
-/// or a failed read.
+/// A conversation that is over found the hub spent at its last step or not at all, and its result tells which where it is an end.
 pub fn conversations_find_spent_last()
     ensures { SpentLaws }
 {
     scripts_find_spent_last();
 }
 
-/// A pause is wanted right behind a poll that was told to wait or found no memory, a request is queued while no token is held, and what
-/// is read stays within the limit of a connection.
+/// A pause is wanted right behind a poll or a withdrawal that was told to wait, or a poll that found no memory; a request is queued while
+/// no token is held; and what is read stays within the limit of a connection.
 pub fn wants_come_in_order()
     ensures { WantLaws }
 {
-    scripts_pause_behind_polls();
+    scripts_pause_behind_early_calls();
 }

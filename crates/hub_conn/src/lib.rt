@@ -1,5 +1,6 @@
 //! One connection to the hub, as a machine that does no input and output itself: it is fed what came, and says what it
-//! wants next.
+//! wants next. In place of the end of a pause between two polls it may be told that its client has left: then it withdraws the
+//! request, writes nothing more, and ends as after a failed read.
 //!
 //! Choices that concern this crate alone:
 //!

@@ -68,7 +68,7 @@ enum State {
     Beginning,
     Running(Run),
     Writing(Outgoing),
-    /// After a fault, a session that was created is ended.
+    /// After a fault, a session that was created is ended, or a request is withdrawn whose client has left.
     Undoing(ConnFault, Undoing),
     Done(Result<Served, ConnFault>),
 }
@@ -105,9 +105,9 @@ fn continue_from(sent: usize) -> &'static [u8]
     &CONTINUE[sent..]
 }
 
-#[tactic(auto, unfolding(crate::specs::Talk::Stands, crate::specs::Talk::is_fresh, crate::specs::Talk::awaited, crate::specs::Talk::held, crate::specs::Talk::blamed, crate::specs::Talk::tokens, crate::specs::Talk::writes_bytes))]
+#[tactic(auto, unfolding(crate::specs::Talk::Stands, crate::specs::Talk::is_fresh, crate::specs::Talk::awaited, crate::specs::Talk::held, crate::specs::Talk::blamed, crate::specs::Talk::tokens, crate::specs::Talk::leaves, crate::specs::Talk::writes_bytes))]
 impl Talk {
-    ghost use Rattle.conn_script.specs.Wanted.{IsAwaited};
+    ghost use Rattle.conn_script.specs.Wanted.{IsAwaited, is_wait};
     ghost use Rattle.hub_conn.specs.Talk.{is_fresh, awaited, held, StandsForSome, IsNew, HandsOut, Takes, Feeds, IsHeld, Rests, is_serving, writes_bytes, IsKept};
 
     /// A connection of which nothing was read. Takes no memory.
@@ -184,6 +184,18 @@ impl Talk {
             Answer::Hub(answer) => self.answered(answer),
             Answer::Node(came) => self.exchanged(came),
             Answer::Paused => self.paused(),
+            Answer::Gone => self.gone(),
+        }
+    }
+
+    /// Whether a New Session waits to be polled again. Where its line tells that its client has left, `Gone` may be fed then in
+    /// place of `Paused`. Takes no memory.
+    pub fn waits(&self) -> bool
+        ensures { result ≡ is_wait (awaited self.now) }
+    {
+        match &self.state {
+            State::Running(run) => run.waits(),
+            _ => false,
         }
     }
 

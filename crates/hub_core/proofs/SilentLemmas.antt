@@ -16,7 +16,7 @@ use Rattle.grid_types.specs.Choice.{Assignment, chosen}
 use Rattle.grid_types.specs.Permitted.{is_named, is_supported, most_bytes, deadline_at}
 use Rattle.grid_types.specs.Tables.{entry}
 use Rattle.grid_types.specs.Calls.{Call, Reply}
-use Rattle.grid_types.specs.HubAnswers.{Answer, hub, moment, says, makes, register_by, enqueued, polled, polled_open, dispatched, answer}
+use Rattle.grid_types.specs.HubAnswers.{Answer, hub, moment, says, makes, register_by, enqueued, polled, polled_open, withdrawn, dispatched, answer}
 use Rattle.grid_types.specs.LookupMap.{published_by, published, changes}
 use Rattle.hub_core.specs.Ahead.{is_quiet, QuietCallsPublishNothing}
 
@@ -84,6 +84,10 @@ quiet-polled : (H : List Entry) (k r m : ℕ) (o : Option Outcome) → IsQuiet (
 quiet-polled H k r m (Some o) = makes-quiet _ _ (λ L. refl)
 quiet-polled H k r m None = quiet-cond _ _ _ (two-quiet _ _ _ (λ L. refl) (λ L. refl)) (quiet-open H k r m (chosen H m))
 
+quiet-withdrawn : (H : List Entry) (r m : ℕ) (o : Option Outcome) → IsQuiet (withdrawn H r m o)
+quiet-withdrawn H r m (Some o) = makes-quiet _ _ (λ L. refl)
+quiet-withdrawn H r m None = quiet-cond _ _ _ (two-quiet _ _ _ (λ L. refl) (λ L. refl)) (says-quiet _)
+
 quiet-dispatched : (H : List Entry) (k m : ℕ) (o : Option Assignment) → IsQuiet (dispatched H k m o)
 quiet-dispatched H k m None = says-quiet _
 quiet-dispatched H k m (Some a) = makes-quiet _ _ (λ L. refl)
@@ -95,6 +99,7 @@ quiet-answer c H k (Call.drain n) m q = quiet-cond _ _ _ (makes-quiet _ _ (λ L.
 quiet-answer c H k (Call.remove n) m q = quiet-cond _ _ _ (makes-quiet _ _ (λ L. refl)) (says-quiet _)
 quiet-answer c H k (Call.enqueue choices) m q = quiet-enqueued c H choices m
 quiet-answer c H k (Call.poll t) m q = quiet-polled H k t.request m (outcome_of H t.request)
+quiet-answer c H k (Call.withdraw t) m q = quiet-withdrawn H t.request m (outcome_of H t.request)
 quiet-answer c H k Call.dispatch m q = quiet-dispatched H k m (chosen H m)
 quiet-answer c H k (Call.bind t x caps) m q = absurd (cc)
 quiet-answer c H k (Call.fail t w) m q = makes-quiet _ _ (λ L. refl)

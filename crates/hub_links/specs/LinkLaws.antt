@@ -1,7 +1,8 @@
 -- How a link goes on by one read or write and by more of them, and what an answer to one adds.
-use Rattle.std.proofs.Common.{◌≡◌, inl, inr, ℕ, ◌≤◌, false, List, [], ◌++◌, length, refl, sym, ap, subst, ◌∙◌, append-nil, append_assoc, arith}
+use Rattle.std.proofs.Common.{◌≡◌, inl, inr, ℕ, ◌≤◌, false, true, List, [], ◌++◌, length, refl, sym, ap, subst, ◌∙◌, append-nil, append_assoc, arith}
 use Rattle.std.specs.Prelude.{Option, None, Some}
 use Rattle.grid_outside.specs.Counts.{Rose}
+use Rattle.grid_outside.specs.Lines.{LooksSo}
 use Rattle.grid_outside.specs.Told.{Gains, LinkView}
 use Rattle.node_client.specs.Held.{Token}
 use Rattle.conn_script.specs.declared.wants.Answer.{Answer}
@@ -69,6 +70,9 @@ IsPlain answer = (told_tokens answer ≡ []) × (finds_spent answer ≡ false)
 pub plain_tokens : (old new : Talk) (answer : Answer) → KeepsTokens old answer new → IsPlain answer → tokens new ≡ tokens old
 plain_tokens old new answer keeps plain = keeps.0 plain.1 ∙ ap (λ (xs : List Token). xs ++ tokens old) plain.0
 
+never : false ≡ true → ⊥
+never e = cc
+
 -- what an answer to a read or to a write adds
 pub record Adds (own : Option (List ℕ)) (answer : Answer) (want : Wanted) (bytes written : List ℕ) : Type 0 where
   pub fits : Fits answer want
@@ -87,6 +91,7 @@ read_adds own told.Begun most h = absurd h
 read_adds own (told.Hub answer) most h = absurd h
 read_adds own (told.Node came) most h = absurd h
 read_adds own told.Paused most h = absurd h
+read_adds own told.Gone most h = absurd (never h)
 
 pub write_adds : (own : Option (List ℕ)) (answer : Answer) (unsent : List ℕ) → IsAwaited answer (count (length unsent)) → Adds own answer (to_write unsent) [] (taken_of answer (to_write unsent))
 write_adds own (told.Wrote n) unsent h = record { fits = tt; made = refl; bytes_are = refl; taken_are = refl; plain = (refl, refl) }
@@ -98,3 +103,19 @@ write_adds own told.Begun unsent h = absurd h
 write_adds own (told.Hub answer) unsent h = absurd h
 write_adds own (told.Node came) unsent h = absurd h
 write_adds own told.Paused unsent h = absurd h
+write_adds own told.Gone unsent h = absurd (never h)
+
+-- ---- a client that has left
+
+-- a look that found it gone is a failed read
+pub looked : (l m : LinkView) → LooksSo true l m → Moved l [] [] m × RoseFor of_read l m
+looked l m looks = (
+  record {
+    given = gains_same l.given m.given looks.1;
+    taken = gains_same l.taken m.taken looks.0.taken;
+    read_faults = looks.0.read_faults;
+    write_faults = omega (arith, looks.0.write_faults);
+    ends = looks.0.ends;
+  },
+  looks.3,
+)

@@ -1,19 +1,26 @@
 -- What one step of a connection does that shares its thread with others.
 use Rattle.std.specs.Prelude.{◌≡◌, ℕ, Bool, true, false, List, None, Some, Option, Result}
+use Rattle.grid_outside.specs.Lines.{LooksSo}
 use Rattle.grid_outside.specs.Told.{ClockView, LinkView, Tick, untold}
 use Rattle.grid_outside.specs.declared.exchange.Ask.{Ask}
 use Rattle.grid_outside.specs.Exchanges.{Came}
 use Rattle.hub_cell.specs.declared.hub.SharedHub.{SharedHub}
 use Rattle.hub_cell.specs.declared.hub.Pass.{Pass}
 use Rattle.hub_cell.specs.Passes.{knows}
-use Rattle.conn_script.specs.Wanted.{Wanted, to_read, to_write, to_begin, to_call, to_ask, to_pause, over}
+use Rattle.conn_script.specs.Wanted.{Wanted, is_wait, to_read, to_write, to_begin, to_call, to_ask, to_pause, over}
 use Rattle.hub_conn.specs.declared.talk.Talk.{Talk}
+use Rattle.hub_conn.specs.Talk.{awaited}
 use Rattle.hub_workers.specs.World.{world_of}
 use Rattle.hub_serving.specs.declared.stepping.Act.{Act}
 use Rattle.hub_serving.specs.declared.stepping.Act.TheVariants as acts
 use Rattle.hub_serving.specs.Outside.{Outside, outside_of}
 use Rattle.hub_serving.specs.Serving.{EndedSo, Serving}
 use Rattle.hub_workers.specs.SharedClock.{Asked, SharedTells}
+
+-- a look whether a New Session waits whose client has left: then a failed read is counted
+abbrev pub FindsLeft : Talk → Bool → LinkView → LinkView → Type 0
+FindsLeft talk true old new = (is_wait (awaited talk) ≡ true) × LooksSo true old new
+FindsLeft talk false old new = new ≡ old
 
 -- What a seat has outside of its connection; the clock is as the seat left it when it asked last. A clock that is shared is made
 -- to pause for nobody, so it tells no pauses.

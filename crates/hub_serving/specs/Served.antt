@@ -13,7 +13,6 @@ use Rattle.hub_cell.specs.Passes.{config_of}
 use Rattle.hub_cell.specs.Shared.{past}
 use Rattle.node_client.specs.Steps.{Step}
 use Rattle.conn_script.specs.declared.wants.ConnFault.{ConnFault}
-use Rattle.conn_script.specs.declared.wants.ConnFault.TheVariants as faults
 use Rattle.conn_script.specs.declared.wants.End.{End}
 use Rattle.conn_script.specs.declared.wants.End.TheVariants as ends
 use Rattle.conn_script.specs.declared.wants.Served.{Served}
@@ -39,10 +38,9 @@ abbrev pub spent_after : ℕ → End → ℕ
 spent_after count ends.HubSpent = count + 1
 spent_after count end = count
 
--- the same with its faults: a failed write, or want of memory, may come behind the call that found the hub spent
+-- the same with its faults: each may come behind the call that found the hub spent
 abbrev pub CountsSpent : ℕ → Result Served ConnFault → ℕ → Type 0
 CountsSpent before (Ok served) after = after ≡ spent_after before served.end
-CountsSpent before (Err faults.Read) after = after ≡ before
 CountsSpent before (Err fault) after = (after ≡ before) ⊎ (after ≡ before + 1)
 
 module _ {N C : Type 0} (hub : SharedHub) (gives : N → List ℕ → Ask → Came → N → Type 0) (tells : C → Tick → ℕ → C → Type 0) where

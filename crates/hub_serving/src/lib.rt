@@ -1,5 +1,6 @@
 //! The driver of a connection over a shared hub: what the connection wants is done by a pass of the hub, a link, the link
-//! to the nodes and a clock. Either it is served to its end, or step by step beside others that share its thread.
+//! to the nodes and a clock. Either it is served to its end, or step by step beside others that share its thread. Of the latter a
+//! New Session that waits is given up where the line tells that its client has left.
 //!
 //! Choices that concern this crate alone:
 //!
@@ -7,6 +8,7 @@
 //!   first request, and is never refused it.
 #![tactic(auto)]
 
+mod allowing;
 mod calls;
 mod seats;
 mod serving;

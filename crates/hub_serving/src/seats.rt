@@ -12,6 +12,7 @@ mod lending;
 mod places;
 mod resting;
 
+use crate::allowing::Allowance;
 use crate::stepping::{Act, advance};
 use grid_outside::{Clock, Line, NodeLine};
 use hub_cell::{Pass, SharedHub};
@@ -30,6 +31,7 @@ pub struct Seat<L: Drop, N: Drop, C> {
     nodes: N,
     /// An exchange with a node is under way.
     asking: bool,
+    allowance: Allowance,
     /// The moment that it was told last.
     moment: u64,
     ended: Option<Result<Served, ConnFault>>,
@@ -42,8 +44,16 @@ pub struct Seat<L: Drop, N: Drop, C> {
 }
 
 impl<L: Line + Drop, N: NodeLine + Drop, C: Clock> Seat<L, N, C> {
-    /// A connection that begins now. Takes no memory.
-    pub fn new(alloc: Global, pass: Pass, line: L, nodes: N, clock: &mut C) -> Seat<L, N, C>
+    /// A connection that begins now. Its requests for sessions are taken to wait so many milliseconds: a start by it may take as long
+    /// as its request has left, at least 30 s and at most 600 s. Takes no memory.
+    pub fn new(
+        alloc: Global,
+        pass: Pass,
+        line: L,
+        nodes: N,
+        clock: &mut C,
+        timeout_ms: u64,
+    ) -> Seat<L, N, C>
         requires idle { N.asks nodes None }
         ensures seated { (hub : SharedHub) → IsOf hub pass →
             IsSeated hub L.view N.state N.gives N.asks C.gives C.view clock.new result }
@@ -64,6 +74,7 @@ impl<L: Line + Drop, N: NodeLine + Drop, C: Clock> Seat<L, N, C> {
             line,
             nodes,
             asking: false,
+            allowance: Allowance::new(timeout_ms),
             moment: now.0,
             ended: None,
             last,
@@ -105,6 +116,7 @@ impl<L: Line + Drop, N: NodeLine + Drop, C: Clock> Seat<L, N, C> {
             &mut self.nodes,
             clock,
             &mut self.asking,
+            &mut self.allowance,
             &mut self.moment,
             &mut self.last,
         ) {

@@ -3,9 +3,10 @@ ghost use Rattle.std.specs.Prelude.{◌≡◌, ◌<◌, length};
 ghost use Rattle.grid_outside.specs.Told.{later_by};
 ghost use Rattle.hub_cell.specs.Passes.{IsOf};
 ghost use Rattle.hub_serving.specs.Outside.{Outside};
-ghost use Rattle.hub_serving.specs.Seats.{Acted, Sits, seen_by};
+ghost use Rattle.hub_serving.specs.Seats.{Acted, FindsLeft, Sits, seen_by};
 ghost use Rattle.hub_workers.specs.SharedClock.{Remembers};
 
+use crate::allowing::Allowance;
 use crate::calls::make;
 use grid_outside::{Clock, Line, NodeLine};
 use grid_types::LAST_MOMENT;
@@ -16,7 +17,7 @@ use std::alloc::Global;
 use std::snapshot::Snapshot;
 use std::sync::Wait;
 
-/// What a connection waits for.
+/// What a connection waits for. While a New Session waits to be polled again, each step looks whether its client has left.
 #[derive(Clone, Copy, Debug, PartialEq, Eq)]
 pub enum Rest {
     /// Bytes, or the end of them.
@@ -47,6 +48,13 @@ fn due_of(moment: u64, ms: u64) -> u64
     moment.saturating_add(ms).min(LAST_MOMENT)
 }
 
+/// Whether a New Session waits whose client has left. False: all is as before.
+fn has_left<L: Line>(talk: &Talk, line: &mut L) -> bool
+    ensures { FindsLeft talk.now result (L.view line.old) (L.view line.new) }
+{
+    talk.waits() && line.gone()
+}
+
 /// Does what the connection wants, where that can be done now. `moment` is the one that it was told last, and `last` the clock as
 /// it was then.
 pub(crate) fn advance<R: Wait, L: Line, N: NodeLine, C: Clock>(
@@ -60,6 +68,7 @@ pub(crate) fn advance<R: Wait, L: Line, N: NodeLine, C: Clock>(
     nodes: &mut N,
     clock: &mut C,
     asking: &mut bool,
+    allowance: &mut Allowance,
     moment: &mut u64,
     last: &mut Snapshot<C>,
 ) -> Act
@@ -109,6 +118,7 @@ pub(crate) fn advance<R: Wait, L: Line, N: NodeLine, C: Clock>(
             let call = talk.hub_call();
             let at = clock.now();
             let told = Snapshot::of(&*clock);
+            allowance.note(&call, at.0);
             let answer = make(rt, hub, pass, call, at);
             talk.feed(Answer::Hub(answer));
             *moment = at.0;
@@ -118,6 +128,7 @@ pub(crate) fn advance<R: Wait, L: Line, N: NodeLine, C: Clock>(
         }
         Want::Node(address, request) => {
             if !asked {
+                nodes.allow(allowance.of(&request, *moment));
                 nodes.ask(alloc, &address, &request);
                 *asking = true;
                 return Act::GoesOn;
@@ -135,6 +146,11 @@ pub(crate) fn advance<R: Wait, L: Line, N: NodeLine, C: Clock>(
             let due = due_of(*moment, ms);
             let now = clock.now();
             if now.0 < due {
+                if has_left(talk, line) {
+                    talk.feed(Answer::Gone);
+                    *asking = false;
+                    return Act::GoesOn;
+                }
                 return Act::Rests(Rest::Until(due));
             }
             let rested = Snapshot::of(&*clock);

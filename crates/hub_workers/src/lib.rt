@@ -10,6 +10,7 @@
 mod acts;
 mod bench;
 mod ends;
+mod limits;
 mod starting;
 mod tick_seats;
 mod tick_steps;
@@ -20,6 +21,7 @@ mod working;
 
 pub use acts::WorkAct;
 pub use ends::WorkerEnd;
+pub use limits::start_limit;
 pub use starting::carry_out;
 pub use tick_seats::{TickSeat, tickers_stay_at_work};
 pub use ticking::ticker;

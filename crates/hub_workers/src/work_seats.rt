@@ -24,6 +24,8 @@ use std::sync::Wait;
 pub struct WorkSeat<N: Drop, C> {
     bench: Bench<N, C>,
     stage: WorkStage,
+    /// How long an exchange of a start may take, in milliseconds.
+    start_ms: u64,
     /// All as it was when it began, which no code can read.
     first: Snapshot<Bench<N, C>>,
 }
@@ -36,8 +38,9 @@ fn put(stage: &mut WorkStage, next: WorkStage)
 }
 
 impl<N: NodeLine + Drop, C: Clock> WorkSeat<N, C> {
-    /// A worker that begins now, between turns. Takes no memory.
-    pub fn new(pass: Pass, nodes: N, clock: &mut C) -> WorkSeat<N, C>
+    /// A worker that begins now, between turns. An exchange of its starts may take `start_ms` milliseconds, where its line to the
+    /// nodes doesn't give up before. Takes no memory.
+    pub fn new(pass: Pass, nodes: N, clock: &mut C, start_ms: u64) -> WorkSeat<N, C>
         requires idle { N.asks nodes None }
         ensures at_work { (hub : SharedHub) → IsOf hub pass →
             IsAtWork hub N.state N.gives N.asks C.gives C.view clock.new result }
@@ -51,6 +54,7 @@ impl<N: NodeLine + Drop, C: Clock> WorkSeat<N, C> {
         WorkSeat {
             bench,
             stage: WorkStage::Between,
+            start_ms,
             first,
         }
     }
@@ -69,7 +73,7 @@ impl<N: NodeLine + Drop, C: Clock> WorkSeat<N, C> {
         ensures asked { Asked C.gives C.view clock.old clock.new }
     {
         let stage = std::mem::replace(&mut self.stage, WorkStage::Between);
-        let (next, act) = work_on(rt, alloc, hub, &mut self.bench, clock, stage);
+        let (next, act) = work_on(rt, alloc, hub, &mut self.bench, clock, stage, self.start_ms);
         put(&mut self.stage, next);
         act
     }

@@ -66,7 +66,7 @@ fn let_go(carry: Carry) {
     drop(carry);
 }
 
-/// Does what the start wants.
+/// Does what the start wants. An exchange of it may take so long.
 fn start_on<R: Wait, N: NodeLine + Drop, C: Clock>(
     rt: &R,
     alloc: Global,
@@ -74,6 +74,7 @@ fn start_on<R: Wait, N: NodeLine + Drop, C: Clock>(
     bench: &mut Bench<N, C>,
     clock: &mut C,
     mut carry: Carry,
+    start_ms: u64,
 ) -> (WorkStage, WorkAct)
     requires attends { Attends hub.now C.gives C.view clock.old bench.old }
     requires fresh { is_fresh carry ≡ true }
@@ -86,6 +87,7 @@ fn start_on<R: Wait, N: NodeLine + Drop, C: Clock>(
 {
     match carry.next() {
         CarryWant::Node { address, request } => {
+            bench.nodes.allow(start_ms);
             bench.nodes.ask(alloc, &address, &request);
             (WorkStage::Asking(carry), WorkAct::GoesOn)
         }
@@ -181,7 +183,7 @@ fn rest<N: NodeLine + Drop, C: Clock>(
     }
 }
 
-/// Does what the worker is at, where that can be done now.
+/// Does what the worker is at, where that can be done now. An exchange of a start may take `start_ms` milliseconds.
 pub fn work_on<R: Wait, N: NodeLine + Drop, C: Clock>(
     rt: &R,
     alloc: Global,
@@ -189,6 +191,7 @@ pub fn work_on<R: Wait, N: NodeLine + Drop, C: Clock>(
     bench: &mut Bench<N, C>,
     clock: &mut C,
     stage: WorkStage,
+    start_ms: u64,
 ) -> (WorkStage, WorkAct)
     requires attends { Attends hub.now C.gives C.view clock.old bench.old }
     requires works { (own : List Step) ×
@@ -200,7 +203,7 @@ pub fn work_on<R: Wait, N: NodeLine + Drop, C: Clock>(
 {
     match stage {
         WorkStage::Between => seek(rt, alloc, hub, bench, clock),
-        WorkStage::Starting(carry) => start_on(rt, alloc, hub, bench, clock, carry),
+        WorkStage::Starting(carry) => { start_on(rt, alloc, hub, bench, clock, carry, start_ms) }
         WorkStage::Asking(carry) => hear(alloc, bench, carry),
         WorkStage::Pausing => rest(bench, clock),
         WorkStage::Over(spent) => (WorkStage::Over(spent), WorkAct::Over(spent)),

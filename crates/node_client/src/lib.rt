@@ -25,5 +25,6 @@ pub use laws::{
     replies_say_one_thing, starts_are_short, starts_spend_all, starts_stand_by_their_wants,
 };
 pub use path::SessionPath;
+pub use reply::session_of;
 pub use requests::{quit_request, start_request};
 pub use wants::{CarryAnswer, CarryEnd, CarryWant};

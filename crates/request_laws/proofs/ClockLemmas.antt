@@ -18,14 +18,14 @@ use Rattle.grid_types.specs.History.{after, clock, moment_of, next_node, next_re
 use Rattle.grid_types.specs.Nodes.{is_base_up, is_draining, is_registered, is_spent}
 use Rattle.grid_types.specs.Slots.{listed}
 use Rattle.grid_types.specs.Bindings.{Running, bound_of}
-use Rattle.grid_types.specs.Requests.{deadline_of, outcome_of, unsettled, unsettled_bytes, waiting_requests}
+use Rattle.grid_types.specs.Requests.{place, is_waiting, deadline_of, outcome_of, unsettled, unsettled_bytes, waiting_requests}
 use Rattle.grid_types.specs.Sessions.{live}
 use Rattle.grid_types.specs.Choice.{Assignment, chosen}
 use Rattle.grid_types.specs.Permitted.{deadline_at, is_named, is_supported, most_bytes}
 use Rattle.grid_types.specs.Capabilities.{request_bytes}
 use Rattle.grid_types.specs.Tokens.{Closing, Ticket}
 use Rattle.grid_types.specs.Calls.{Call, Reply}
-use Rattle.grid_types.specs.HubAnswers.{Answer, after_call, answer, is_beat_of, bound, bound_by, refusal_of, closes, dispatched, drain_after_bind, drained_nodes, enqueued, expired_by, hub, idle_bindings, is_binding, lapsed_nodes, lapses, moment, overdue_requests, polled, polled_open, register_by, removals, silent_nodes, suspicions, time_outs}
+use Rattle.grid_types.specs.HubAnswers.{Answer, after_call, answer, is_beat_of, bound, bound_by, refusal_of, closes, dispatched, drain_after_bind, drained_nodes, enqueued, expired_by, hub, idle_bindings, is_binding, lapsed_nodes, lapses, moment, overdue_requests, polled, polled_open, withdrawn, register_by, removals, silent_nodes, suspicions, time_outs}
 use Rattle.grid_types.specs.Tables.{entry}
 use Rattle.request_laws.proofs.CountLemmas.{never}
 
@@ -99,6 +99,10 @@ polls : (H : List Entry) (k r m : ℕ) (o : Option Outcome) → AreBy m (polled 
 polls H k r m (Some o) = once m
 polls H k r m None = either m (nat_le (deadline_of H r) m) _ _ (twice m) (polls_open H k r m (chosen H m))
 
+withdraws : (H : List Entry) (r m : ℕ) (o : Option Outcome) → AreBy m (withdrawn H r m o).changes
+withdraws H r m (Some o) = once m
+withdraws H r m None = either m (is_waiting (place H r)) _ _ (twice m) refl
+
 dispatches : (H : List Entry) (k m : ℕ) (o : Option Assignment) → AreBy m (dispatched H k m o).changes
 dispatches H k m None = refl
 dispatches H k m (Some a) = once m
@@ -147,6 +151,7 @@ are_by c H k (Call.enqueue choices) m =
     (either m (c.reject_unsupported && not (is_supported H choices)) _ _ refl
     (either m (nat_le c.queue_requests (length (unsettled H)) || nat_lt most_bytes (unsettled_bytes H + request_bytes choices)) _ _ refl (once m)))
 are_by c H k (Call.poll t) m = polls H k t.request m (outcome_of H t.request)
+are_by c H k (Call.withdraw t) m = withdraws H t.request m (outcome_of H t.request)
 are_by c H k Call.dispatch m = dispatches H k m (chosen H m)
 are_by c H k (Call.bind t x caps) m = binds H k t.request t.slot x caps m
 are_by c H k (Call.fail t w) m = once m

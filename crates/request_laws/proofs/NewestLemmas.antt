@@ -17,14 +17,14 @@ use Rattle.grid_types.specs.History.{after, clock, next_node, next_request, node
 use Rattle.grid_types.specs.Nodes.{is_base_up, is_draining, is_registered, is_spent}
 use Rattle.grid_types.specs.Slots.{listed}
 use Rattle.grid_types.specs.Bindings.{Running, bound_of}
-use Rattle.grid_types.specs.Requests.{deadline_of, outcome_of, unsettled, unsettled_bytes, waiting_requests}
+use Rattle.grid_types.specs.Requests.{place, is_waiting, deadline_of, outcome_of, unsettled, unsettled_bytes, waiting_requests}
 use Rattle.grid_types.specs.Sessions.{live}
 use Rattle.grid_types.specs.Choice.{Assignment, chosen}
 use Rattle.grid_types.specs.Permitted.{is_named, is_supported, most_bytes}
 use Rattle.grid_types.specs.Capabilities.{request_bytes}
 use Rattle.grid_types.specs.Tokens.{Closing, Ticket}
 use Rattle.grid_types.specs.Calls.{Call, Reply}
-use Rattle.grid_types.specs.HubAnswers.{Answer, after_call, answer, is_beat_of, bound, bound_by, refusal_of, closes, dispatched, drain_after_bind, drained_nodes, enqueued, expired_by, hub, idle_bindings, is_binding, lapsed_nodes, lapses, moment, overdue_requests, polled, polled_open, register_by, removals, silent_nodes, suspicions, time_outs}
+use Rattle.grid_types.specs.HubAnswers.{Answer, after_call, answer, is_beat_of, bound, bound_by, refusal_of, closes, dispatched, drain_after_bind, drained_nodes, enqueued, expired_by, hub, idle_bindings, is_binding, lapsed_nodes, lapses, moment, overdue_requests, polled, polled_open, withdrawn, register_by, removals, silent_nodes, suspicions, time_outs}
 use Rattle.grid_types.specs.Tables.{entry}
 use Rattle.request_laws.specs.Starts.{newest_request}
 use Rattle.request_laws.specs.Laws.{is_enqueue}
@@ -80,6 +80,10 @@ polls : (H : List Entry) (k r m : ℕ) (o : Option Outcome) → AreOthers (polle
 polls H k r m (Some o) = refl
 polls H k r m None = either (nat_le (deadline_of H r) m) _ _ refl (polls_open H k r m (chosen H m))
 
+withdraws : (H : List Entry) (r m : ℕ) (o : Option Outcome) → AreOthers (withdrawn H r m o).changes
+withdraws H r m (Some o) = refl
+withdraws H r m None = either (is_waiting (place H r)) _ _ refl refl
+
 dispatches : (H : List Entry) (k m : ℕ) (o : Option Assignment) → AreOthers (dispatched H k m o).changes
 dispatches H k m None = refl
 dispatches H k m (Some a) = refl
@@ -125,6 +129,7 @@ are_others c H k (Call.drain n) m e = either (is_base_up H n) _ _ refl (either (
 are_others c H k (Call.remove n) m e = either (is_registered H n) _ _ refl refl
 are_others c H k (Call.enqueue choices) m e = absurd (never (sym e))
 are_others c H k (Call.poll t) m e = polls H k t.request m (outcome_of H t.request)
+are_others c H k (Call.withdraw t) m e = withdraws H t.request m (outcome_of H t.request)
 are_others c H k Call.dispatch m e = dispatches H k m (chosen H m)
 are_others c H k (Call.bind t x caps) m e = binds H k t.request t.slot x caps m
 are_others c H k (Call.fail t w) m e = refl

@@ -27,7 +27,7 @@ use Rattle.grid_types.specs.Choice.{Assignment, chosen}
 use Rattle.grid_types.specs.Permitted.{is_named, is_caller, is_last}
 use Rattle.grid_types.specs.Tokens.{Closing, is_good_closing, closing_of}
 use Rattle.grid_types.specs.Calls.{Call, Reply}
-use Rattle.grid_types.specs.HubAnswers.{Answer, says, makes, moment, register_by, drained, enqueued, polled, polled_open, reserves, dispatched, bound_by, refused_reply, refusal_of, drain_after_bind, failed, at_binding, is_binding, closes, expired_by, idle_bindings, lapses, lapsed_nodes, suspicions, silent_nodes, time_outs, overdue_requests, removals, drained_nodes, swept, cleared, hub, answer, after_call}
+use Rattle.grid_types.specs.HubAnswers.{Answer, says, makes, moment, register_by, drained, enqueued, polled, polled_open, withdrawn, reserves, dispatched, bound_by, refused_reply, refusal_of, drain_after_bind, failed, at_binding, is_binding, closes, expired_by, idle_bindings, lapses, lapsed_nodes, suspicions, silent_nodes, time_outs, overdue_requests, removals, drained_nodes, swept, cleared, hub, answer, after_call}
 use Rattle.token_laws.specs.Gives.{gives_closing, hands_closing, ClosingsComeFromReplies}
 
 -- a change that leaves some slot closing
@@ -116,6 +116,10 @@ poll-quiet H k q m None = by_late (nat_le (deadline_of H q) m)
     by_late : (t : Bool) → Quiet (cond t late (polled_open H k q m (chosen H m))).changes
     by_late true = refl
     by_late false = poll_open-quiet H k q m (chosen H m)
+
+withdraw-quiet : (H : List Entry) (q m : ℕ) (o : Option Outcome) → Quiet (withdrawn H q m o).changes
+withdraw-quiet H q m (Some o) = refl
+withdraw-quiet H q m None = grind arith
 
 sweep-quiet : (c : HubConfig) (H : List Entry) (k m : ℕ) → Quiet (swept c H k m).changes
 sweep-quiet c H k m =
@@ -211,6 +215,7 @@ answer-comes c H k (Call.drain n) m z law l = by_quiet H k (Call.drain n) (drain
 answer-comes c H k (Call.remove n) m z law l = by_quiet H k (Call.remove n) (answer c H k (Call.remove n) m) z (grind arith) refl
 answer-comes c H k (Call.enqueue choices) m z law l = by_quiet H k (Call.enqueue choices) (enqueued c H choices m) z (enqueue-quiet c H choices m) refl
 answer-comes c H k (Call.poll t) m z law l = by_quiet H k (Call.poll t) (polled H k t.request m (outcome_of H t.request)) z (poll-quiet H k t.request m (outcome_of H t.request)) refl
+answer-comes c H k (Call.withdraw t) m z law l = by_quiet H k (Call.withdraw t) (withdrawn H t.request m (outcome_of H t.request)) z (withdraw-quiet H t.request m (outcome_of H t.request)) refl
 answer-comes c H k Call.dispatch m z law l = by_quiet H k Call.dispatch (dispatched H k m (chosen H m)) z (dispatch-quiet H k m (chosen H m)) refl
 answer-comes c H k (Call.bind t x caps) m z law l = bind-comes H k (Call.bind t x caps) t.request t.slot x caps m (refusal_of H t.request t.slot x caps) z refl
 answer-comes c H k (Call.fail t w) m z law l = by_quiet H k (Call.fail t w) (failed H t.request t.slot w m) z refl refl

@@ -23,7 +23,7 @@ use Rattle.grid_types.specs.Choice.{Assignment, chosen}
 use Rattle.grid_types.specs.Permitted.{is_named, is_caller}
 use Rattle.grid_types.specs.Tokens.{is_good_reservation, ticket_of}
 use Rattle.grid_types.specs.Calls.{Call, Reply}
-use Rattle.grid_types.specs.HubAnswers.{Answer, says, moment, makes, reserved, register_by, drained, enqueued, polled, polled_open, reserves, dispatched, bound_by, refusal_of, drain_after_bind, failed, at_binding, is_binding, closes, expired_by, idle_bindings, lapses, lapsed_nodes, suspicions, silent_nodes, time_outs, overdue_requests, removals, drained_nodes, swept, cleared, hub, answer, after_call}
+use Rattle.grid_types.specs.HubAnswers.{Answer, says, moment, makes, reserved, register_by, drained, enqueued, polled, polled_open, withdrawn, reserves, dispatched, bound_by, refusal_of, drain_after_bind, failed, at_binding, is_binding, closes, expired_by, idle_bindings, lapses, lapsed_nodes, suspicions, silent_nodes, time_outs, overdue_requests, removals, drained_nodes, swept, cleared, hub, answer, after_call}
 use Rattle.token_laws.specs.Gives.{gives_reservation, hands_reservation, ReservationsComeFromReplies}
 
 -- a change that reserves the slot for the request
@@ -155,6 +155,10 @@ poll-comes H k call q m None r z none good = by_late (nat_le (deadline_of H q) m
     by_late true h = inl (older H k (change.TimedOut q (moment m) ∷ change.Taken q (moment m) ∷ []) r z refl h, none)
     by_late false h = poll_open-comes H k call q m (chosen H m) r z none h
 
+withdraw-quiet : (H : List Entry) (q m : ℕ) (o : Option Outcome) (r : ℕ) (z : SlotId) → Quiet (withdrawn H q m o).changes r z
+withdraw-quiet H q m (Some o) r z = refl
+withdraw-quiet H q m None r z = grind arith
+
 -- the slot of a reservation that was spent is not held
 spent_now : (H : List Entry) (k : ℕ) (c : Change) (h : Holder) (r : ℕ) (z : SlotId) → holder_told H z (holder H z) c ≡ Some h → is_held_by r h ≡ false → is_good_reservation (record { caller = k; change = c } ∷ H) k r z ≡ false
 spent_now H k c h r z told other = rw (told, other) refl
@@ -181,6 +185,7 @@ answer-comes c H k (Call.drain n) m r z good = by_quiet H k (Call.drain n) (drai
 answer-comes c H k (Call.remove n) m r z good = by_quiet H k (Call.remove n) (answer c H k (Call.remove n) m) r z (grind arith) refl good
 answer-comes c H k (Call.enqueue choices) m r z good = by_quiet H k (Call.enqueue choices) (enqueued c H choices m) r z (enqueue-quiet c H choices m r z) refl good
 answer-comes c H k (Call.poll t) m r z good = poll-comes H k (Call.poll t) t.request m (outcome_of H t.request) r z refl good
+answer-comes c H k (Call.withdraw t) m r z good = by_quiet H k (Call.withdraw t) (withdrawn H t.request m (outcome_of H t.request)) r z (withdraw-quiet H t.request m (outcome_of H t.request) r z) refl good
 answer-comes c H k Call.dispatch m r z good = dispatch-comes H k Call.dispatch m (chosen H m) r z true refl good
 answer-comes c H k (Call.bind t x caps) m r z good = bind-comes H k (Call.bind t x caps) t.request t.slot x caps m (refusal_of H t.request t.slot x caps) r z (nat_eq t.request r && slot_eq t.slot z) refl refl good
 answer-comes c H k (Call.fail t w) m r z good = fail-comes H k (Call.fail t w) t.request t.slot w m r z (nat_eq t.request r && slot_eq t.slot z) refl refl good

@@ -14,14 +14,14 @@ use Rattle.grid_types.specs.declared.capabilities.Registration.{Registration}
 use Rattle.grid_types.specs.declared.names.SlotId.{SlotId}
 use Rattle.grid_types.specs.History.{after, clock, nodes}
 use Rattle.grid_types.specs.Lists.{least}
-use Rattle.grid_types.specs.Requests.{outcome_of, deadline_of, waiting_requests}
+use Rattle.grid_types.specs.Requests.{place, is_waiting, outcome_of, deadline_of, waiting_requests}
 use Rattle.grid_types.specs.Bindings.{Running, bound_of}
 use Rattle.grid_types.specs.Sessions.{live}
 use Rattle.grid_types.specs.Choice.{Assignment, chosen}
 use Rattle.grid_types.specs.Permitted.{is_named}
-use Rattle.grid_types.specs.Tokens.{is_good_ticket}
+use Rattle.grid_types.specs.Tokens.{is_good_ticket, ticket_of}
 use Rattle.grid_types.specs.Calls.{Call, Reply}
-use Rattle.grid_types.specs.HubAnswers.{Answer, says, moment, register_by, drained, enqueued, polled, polled_open, reserves, dispatched, bound_by, refusal_of, drain_after_bind, failed, at_binding, is_binding, closes, expired_by, idle_bindings, lapses, lapsed_nodes, suspicions, silent_nodes, time_outs, overdue_requests, removals, drained_nodes, swept, cleared, hub, answer, after_call}
+use Rattle.grid_types.specs.HubAnswers.{Answer, says, moment, register_by, drained, enqueued, polled, polled_open, withdrawn, reserves, dispatched, bound_by, refusal_of, drain_after_bind, failed, at_binding, is_binding, closes, expired_by, idle_bindings, lapses, lapsed_nodes, suspicions, silent_nodes, time_outs, overdue_requests, removals, drained_nodes, swept, cleared, hub, answer, after_call}
 use Rattle.token_laws.specs.Gives.{gives_ticket, hands_ticket, TicketsComeFromReplies}
 
 -- a change that queues the request
@@ -126,6 +126,18 @@ poll-comes H k call q m r (Some o) true same handed good = absurd (taken_now H k
 poll-comes H k call q m r (Some o) false same handed good = inl (older H k (change.Taken q (moment m) ∷ []) r refl good, handed)
 poll-comes H k call q m r None mine same handed good = poll_late-comes H k call q m r (nat_le (deadline_of H q) m) mine same handed good
 
+withdraw_open-comes : (H : List Entry) (k : ℕ) (call : Call) (q m r : ℕ) (waits mine : Bool) → nat_eq q r ≡ mine → hands_ticket call r ≡ mine →
+    Comes H k call (cond waits (record { changes = change.Cleared q (moment m) ∷ change.Taken q (moment m) ∷ []; reply = Reply.withdrawn }) (says (Reply.not_yet (ticket_of H q)))) r
+withdraw_open-comes H k call q m r true true same handed good = absurd (taken_now (record { caller = k; change = change.Cleared q (moment m) } ∷ H) k q m r same good)
+withdraw_open-comes H k call q m r true false same handed good = inl (older H k (change.Cleared q (moment m) ∷ change.Taken q (moment m) ∷ []) r refl good, handed)
+withdraw_open-comes H k call q m r false true same handed good = inr same
+withdraw_open-comes H k call q m r false false same handed good = inl (good, handed)
+
+withdraw-comes : (H : List Entry) (k : ℕ) (call : Call) (q m r : ℕ) (o : Option Outcome) (mine : Bool) → nat_eq q r ≡ mine → hands_ticket call r ≡ mine → Comes H k call (withdrawn H q m o) r
+withdraw-comes H k call q m r (Some o) true same handed good = absurd (taken_now H k q m r same good)
+withdraw-comes H k call q m r (Some o) false same handed good = inl (older H k (change.Taken q (moment m) ∷ []) r refl good, handed)
+withdraw-comes H k call q m r None mine same handed good = withdraw_open-comes H k call q m r (is_waiting (place H q)) mine same handed good
+
 answer-comes : (c : HubConfig) (H : List Entry) (k : ℕ) (call : Call) (m r : ℕ) → Comes H k call (answer c H k call m) r
 answer-comes c H k (Call.register n) m r good = by_quiet H k (Call.register n) (register_by c H n m (find (is_named H n.name) (nodes H))) r (register-quiet c H n m (find (is_named H n.name) (nodes H)) r) refl good
 answer-comes c H k (Call.beat n name) m r good = by_quiet H k (Call.beat n name) (answer c H k (Call.beat n name) m) r (grind arith) refl good
@@ -133,6 +145,7 @@ answer-comes c H k (Call.drain n) m r good = by_quiet H k (Call.drain n) (draine
 answer-comes c H k (Call.remove n) m r good = by_quiet H k (Call.remove n) (answer c H k (Call.remove n) m) r (grind arith) refl good
 answer-comes c H k (Call.enqueue choices) m r good = enqueue-comes c H k choices m r good
 answer-comes c H k (Call.poll t) m r good = poll-comes H k (Call.poll t) t.request m r (outcome_of H t.request) (nat_eq t.request r) refl refl good
+answer-comes c H k (Call.withdraw t) m r good = withdraw-comes H k (Call.withdraw t) t.request m r (outcome_of H t.request) (nat_eq t.request r) refl refl good
 answer-comes c H k Call.dispatch m r good = by_quiet H k Call.dispatch (dispatched H k m (chosen H m)) r (dispatch-quiet H k m (chosen H m) r) refl good
 answer-comes c H k (Call.bind t x caps) m r good = by_quiet H k (Call.bind t x caps) (bound_by H k t.request t.slot x caps m (refusal_of H t.request t.slot x caps)) r (bind-quiet H k t.request t.slot x caps m (refusal_of H t.request t.slot x caps) r) refl good
 answer-comes c H k (Call.fail t w) m r good = by_quiet H k (Call.fail t w) (failed H t.request t.slot w m) r refl refl good

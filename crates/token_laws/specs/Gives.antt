@@ -12,6 +12,7 @@ use Rattle.grid_types.specs.HubAnswers.{hub, after_call}
 -- the call is handed a ticket of the request
 abbrev pub hands_ticket : Call → ℕ → Bool
 hands_ticket (Call.poll ticket) request = nat_eq ticket.request request
+hands_ticket (Call.withdraw ticket) request = nat_eq ticket.request request
 hands_ticket call request = false
 
 -- the call is handed a reservation of the slot for the request

@@ -1,14 +1,13 @@
 //! The script of the request under way.
-ghost use Rattle.std.specs.Prelude.{◌≡◌, ◌⊎◌, ◌||◌, ◌+◌, true, [], Err};
-ghost use Rattle.conn_script.specs.Work.{undo_work};
-ghost use Rattle.hub_conn.specs.Work.{LeavesAtMost, TurnsTo};
+ghost use Rattle.std.specs.Prelude.{◌≡◌, ◌⊎◌, ◌||◌, true, []};
+ghost use Rattle.hub_conn.specs.Work.{LeavesUndoing, TurnsTo};
 ghost use Rattle.conn_script.specs.Wanted.{IsAwaited};
 ghost use Rattle.conn_script.specs.Moving.{IsReady, turn_is_fresh, turn_tokens};
-ghost use Rattle.conn_script.specs.Undo.{undo_tokens, undo_goes_on};
+ghost use Rattle.conn_script.specs.Undo.{undo_goes_on};
 ghost use Rattle.conn_script.specs.declared.wants.Answer.TheVariants as told;
 ghost use Rattle.conn_script.specs.declared.undoing.Undoing.TheVariants as undo;
 ghost use Rattle.hub_conn.specs.declared.talk.State.TheVariants as states;
-ghost use Rattle.hub_conn.specs.Talk.{StandsForSome, awaited, Feeds, Settles, of_nothing, result_cause, IsAnswerable, Rests, FirstOf, GoesOn, HasUndone, TurnWrites};
+ghost use Rattle.hub_conn.specs.Talk.{StandsForSome, awaited, Feeds, Settles, SettlesUndoing, of_nothing, IsAnswerable, Rests, FirstOf, GoesOn, HasUndone, TurnWrites};
 ghost use Rattle.hub_conn.specs.Inbox.{HoldsSomeWhole};
 
 use crate::talk::{Kept, State, Talk};
@@ -123,16 +122,30 @@ impl Talk {
                 let turn = run.paused(self.closes);
                 self.turn(turn);
             }
+            State::Undoing(fault, undoing) => self.undone(fault, undoing.paused()),
             _ => unreachable!(),
         }
     }
 
-    /// Goes on with the end of a session, or ends with the fault.
+    /// The client of the New Session that waits has left.
+    pub(super) fn gone(&mut self)
+        requires awaits { IsAwaited told.Gone (awaited self.old) }
+        requires stands { StandsForSome self.old }
+        ensures { Feeds self.old told.Gone self.new }
+    {
+        stays();
+        match self.take_state() {
+            State::Running(run) => self.undone(ConnFault::Read, run.left()),
+            _ => unreachable!(),
+        }
+    }
+
+    /// Goes on with what is left to do after the fault, or ends with it.
     fn undone(&mut self, fault: ConnFault, undoing: Undoing)
         requires { (undoing ≡ undo.Over) ⊎ (undo_goes_on undoing ≡ true) }
         ensures undone { HasUndone fault undoing self.new }
-        ensures settles { Settles self.new (result_cause (Err fault)) (undo_tokens undoing) }
-        ensures less { LeavesAtMost (1 + undo_work undoing) self.new }
+        ensures settles { SettlesUndoing self.new fault undoing }
+        ensures less { LeavesUndoing undoing self.new }
     {
         match undoing {
             Undoing::Over => self.fail(fault),

@@ -58,25 +58,36 @@ fn rest_here<L: Line + Drop, N: NodeLine + Drop, C: Clock>(seat: &mut Option<Sea
 impl<L: Line + Drop, N: NodeLine + Drop, C: Clock> Places<L, N, C> {
     ghost use Rattle.hub_serving.specs.Places.{AreSeated, seats_of};
 
-    /// So many places, at none of which a connection stands. Nothing that is done with them takes memory.
+    /// Room for so many places, at none of which a connection stands. Nothing that is done with them takes memory, and what no
+    /// connection has stood at yet is not touched.
     pub fn new(alloc: Global, count: usize) -> Result<Places<L, N, C>, NoMemory>
         ensures { (hub : SharedHub) (clock : C) → IfOk result
             (AreSeated hub L.view N.state N.gives N.asks C.gives C.view clock) }
     {
-        let mut seats = Vec::with_capacity(alloc, count)?;
-        for _ in 0..count {
-            seats.push_reserved(None);
-        }
+        let seats = Vec::with_capacity(alloc, count)?;
         Ok(Places { seats })
     }
 
-    /// Puts a connection at the place, and gives back the one that stood there; or this one, where there is no such place.
+    /// From now on the place is there, where it is the next one and there is room for it.
+    fn grow(&mut self, place: usize)
+        ensures { (hub : SharedHub) (clock : C) →
+            AreSeated hub L.view N.state N.gives N.asks C.gives C.view clock self.old →
+            AreSeated hub L.view N.state N.gives N.asks C.gives C.view clock self.new }
+    {
+        if place == self.seats.len() && place < self.seats.capacity() {
+            self.seats.push_reserved(None);
+        }
+    }
+
+    /// Puts a connection at the place, and gives back the one that stood there; or this one, where there is no such place: each
+    /// place comes once a connection has stood at all before it, as far as there is room.
     pub fn sit(&mut self, place: usize, seat: Seat<L, N, C>) -> Option<Seat<L, N, C>>
         ensures { (hub : SharedHub) (clock : C) →
             AreSeated hub L.view N.state N.gives N.asks C.gives C.view clock self.old →
             IsSeated hub L.view N.state N.gives N.asks C.gives C.view clock seat →
             AreSeated hub L.view N.state N.gives N.asks C.gives C.view clock self.new }
     {
+        self.grow(place);
         if place >= self.seats.len() {
             return Some(seat);
         }

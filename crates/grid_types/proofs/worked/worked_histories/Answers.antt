@@ -141,6 +141,19 @@ returns-clause-full_queue c = record {
   not_asked = refl;
 }
 
+pub returns-clause-withdrawals : goal.returns-clause-withdrawals
+unfolding hub chosen fits matches is_last meets serves request_bytes written_caps permitted view_of
+returns-clause-withdrawals c = record {
+  withdraws = refl;
+  next_is_assigned = refl;
+  held_is_to_wait = refl;
+  bound_is_told = refl;
+  cleared_is_told = refl;
+  overdue_is_withdrawn = refl;
+  makes_room = refl;
+  is_legal = refl;
+}
+
 pub returns-clause-sweep : goal.returns-clause-sweep
 unfolding hub chosen fits matches is_last meets serves request_bytes written_caps permitted view_of
 returns-clause-sweep c = record {

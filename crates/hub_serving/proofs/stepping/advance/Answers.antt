@@ -1,11 +1,11 @@
-use Rattle.std.proofs.Common.{◌≤◌, ℕ, ap, arith, refl, subst, sym}
+use Rattle.std.proofs.Common.{◌≤◌, ◌∙◌, ℕ, ap, arith, subst, sym}
 use Rattle.grid_outside.specs.Told.{LinkView, later_by}
 use Rattle.hub_cell.specs.Passes.{knows}
 use Rattle.hub_workers.specs.ClockLaws.{asked_once, remembers_now, remembers_on, shared_pause, shared_ticks}
 use Rattle.hub_serving.specs.Seats.{seen_by}
 use Rattle.hub_workers.specs.SharedClock.{SharedTells, not_asked}
 use Rattle.hub_serving.proofs.SeatLemmas.{IsNoAsk, begins, ends, goes_on, has_come, rests, waits}
-use Rattle.hub_serving.proofs.TurnLemmas.{begin_turn, hub_turn, over_turn, pause_turn, read_turn, write_turn}
+use Rattle.hub_serving.proofs.TurnLemmas.{begin_turn, gone_turn, hub_turn, over_turn, pause_turn, read_turn, write_turn}
 use Rattle.hub_serving.proofs.stepping.advance.Goals as goal
 
 pub returns-in-Some-clause-acted : goal.returns-in-Some-clause-acted
@@ -64,7 +64,7 @@ pub returns-then-not-asked-clause-acted : goal.returns-then-not-asked-clause-act
 returns-then-not-asked-clause-acted g c = record {
   asked = not_asked;
   goes = begins c.args.hub.now g.N.NodeLine.gives g.N.NodeLine.asks g.C.Clock.gives g.C.Clock.view c.args.talk.now c.next.result c.in-Node.address c.in-Node.request c.args.nodes.now c.ask.new.self c.args.asking.now _ _
-      c.next.ensures c.in-Node.is c.ask.ensures.asks (ap (λ (st : g.N.NodeLine.State). seen_by g.C.Clock.view c.args.pass.now st c.args.last.now.value (g.L.Line.view c.args.line.now)) c.ask.ensures.same);
+      c.next.ensures c.in-Node.is c.ask.ensures.asks (ap (λ (st : g.N.NodeLine.State). seen_by g.C.Clock.view c.args.pass.now st c.args.last.now.value (g.L.Line.view c.args.line.now)) (c.ask.ensures.same ∙ c.allow.ensures.same));
 }
 
 pub returns-in-Some-came-clause-acted : goal.returns-in-Some-came-clause-acted
@@ -83,6 +83,22 @@ returns-in-None-came-clause-acted g c =
       goes = (same, waits c.args.hub.now g.N.NodeLine.gives g.N.NodeLine.asks g.C.Clock.gives g.C.Clock.view c.args.talk.now c.args.nodes.now c.came.new.self c.args.asking.now _ _ c.in-None-came.ensures.asks same);
     }
 
+pub feed-requires-then-has_left-clause-awaits : goal.feed-requires-then-has_left-clause-awaits
+feed-requires-then-has_left-clause-awaits g c = c.if-has_left.ensures.0
+
+pub returns-then-has_left-clause-remembers : goal.returns-then-has_left-clause-remembers
+returns-then-has_left-clause-remembers g c =
+    remembers_on g.C.Clock.gives g.C.Clock.view c.args.clock.now c.now-now.new.self c.args.moment.now c.args.last.now.value
+    (asked_once g.C.Clock.gives g.C.Clock.view c.args.clock.now c.now-now.new.self c.now-now.result.0 c.now-now.ensures.gives c.now-now.ensures.later) c.requires.remembers
+
+pub returns-then-has_left-clause-acted : goal.returns-then-has_left-clause-acted
+returns-then-has_left-clause-acted g c = record {
+  asked = asked_once g.C.Clock.gives g.C.Clock.view c.args.clock.now c.now-now.new.self c.now-now.result.0 c.now-now.ensures.gives c.now-now.ensures.later;
+  goes = goes_on c.args.hub.now g.N.NodeLine.gives g.N.NodeLine.asks g.C.Clock.gives g.C.Clock.view c.args.talk.now c.feed-then-has_left.new.self c.next.result c.args.nodes.now c.args.asking.now _ _ c.next.ensures (subst IsNoAsk (sym c.in-Pause.is) tt)
+      (gone_turn c.args.hub.now g.N.NodeLine.gives (SharedTells g.C.Clock.gives g.C.Clock.view) c.args.talk.now c.feed-then-has_left.new.self c.next.result c.in-Pause.ms _ _ _
+      c.next.ensures c.in-Pause.is c.feed-then-has_left.ensures c.if-has_left.ensures.1);
+}
+
 pub returns-then-now-due-clause-remembers : goal.returns-then-now-due-clause-remembers
 returns-then-now-due-clause-remembers g c =
     remembers_on g.C.Clock.gives g.C.Clock.view c.args.clock.now c.now-now.new.self c.args.moment.now c.args.last.now.value
@@ -91,7 +107,9 @@ returns-then-now-due-clause-remembers g c =
 pub returns-then-now-due-clause-acted : goal.returns-then-now-due-clause-acted
 returns-then-now-due-clause-acted g c = record {
   asked = asked_once g.C.Clock.gives g.C.Clock.view c.args.clock.now c.now-now.new.self c.now-now.result.0 c.now-now.ensures.gives c.now-now.ensures.later;
-  goes = rests c.args.hub.now g.N.NodeLine.gives g.N.NodeLine.asks g.C.Clock.gives g.C.Clock.view c.args.talk.now c.args.nodes.now c.args.asking.now _ _ refl;
+  goes = rests c.args.hub.now g.N.NodeLine.gives g.N.NodeLine.asks g.C.Clock.gives g.C.Clock.view c.args.talk.now c.args.nodes.now c.args.asking.now _ _
+      (ap (λ (l : LinkView). seen_by g.C.Clock.view c.args.pass.now (g.N.NodeLine.state c.args.nodes.now) c.args.last.now.value l)
+      c.if-has_left.ensures);
 }
 
 pub returns-else-now-due-clause-remembers : goal.returns-else-now-due-clause-remembers

@@ -1,4 +1,4 @@
-use Rattle.std.proofs.Common.{Some, refl}
+use Rattle.std.proofs.Common.{◌∙◌, Some, refl}
 use Rattle.grid_types.specs.Calls.{Call, Reply}
 use Rattle.hub_core.specs.Replies.{binding_reply, failing_reply}
 use Rattle.hub_cell.specs.Passes.{knows}
@@ -12,7 +12,7 @@ pub returns-in-Node-clause-goes : goal.returns-in-Node-clause-goes
 returns-in-Node-clause-goes g c =
     start_asks c.args.hub.now g.N.NodeLine.gives (SharedTells g.C.Clock.gives g.C.Clock.view) (g.N.NodeLine.asks c.args.bench.now.nodes) c.args.bench.now.moment (g.C.Clock.view c.args.clock.now).moment
     (g.N.NodeLine.asks c.ask.new.self) c.args.carry c.next.result c.in-Node.address c.in-Node.request (knows c.args.bench.now.pass) (g.N.NodeLine.state c.args.bench.now.nodes) (g.N.NodeLine.state c.ask.new.self) _ _
-    c.next.ensures c.in-Node.is c.ask.ensures.asks c.ask.ensures.same
+    c.next.ensures c.in-Node.is c.ask.ensures.asks (c.ask.ensures.same ∙ c.allow.ensures.same)
 
 pub returns-in-Ok-clause-goes : goal.returns-in-Ok-clause-goes
 returns-in-Ok-clause-goes g c =

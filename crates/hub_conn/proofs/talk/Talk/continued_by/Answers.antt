@@ -12,7 +12,7 @@ returns-then-sent-clause-goes c = λ own w bytes steps written x.
     (omega (arith, c.if-sent.true))
 
 pub returns-then-sent-clause-settles : goal.returns-then-sent-clause-settles
-returns-then-sent-clause-settles c = settles_in _ (states.Continuing (c.args.sent + c.args.count)) of_nothing [] refl refl refl refl
+returns-then-sent-clause-settles c = settles_in _ (states.Continuing (c.args.sent + c.args.count)) of_nothing [] refl refl refl refl refl
 
 pub returns-else-sent-clause-goes : goal.returns-else-sent-clause-goes
 returns-else-sent-clause-goes c = λ own w bytes steps written x.

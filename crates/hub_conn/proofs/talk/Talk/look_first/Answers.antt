@@ -16,7 +16,7 @@ returns-then-is_due-clause-looks c =
     (λ bytes x. x) (λ bytes x. subst (λ (b : Bool). Waits bytes b) (due_waits c.waits-waits.result old.continued due) (c.waits-waits.ensures c.requires.filled bytes x))
 
 pub returns-then-is_due-clause-settles : goal.returns-then-is_due-clause-settles
-returns-then-is_due-clause-settles c = settles_in _ (states.Continuing 0) of_nothing [] refl refl refl refl
+returns-then-is_due-clause-settles c = settles_in _ (states.Continuing 0) of_nothing [] refl refl refl refl refl
 
 pub returns-else-is_due-clause-looks : goal.returns-else-is_due-clause-looks
 returns-else-is_due-clause-looks c = λ own bytes steps written x.

@@ -22,7 +22,7 @@ returns-in-Whole-clause-looks c = λ own bytes rest steps written x.
     (c.in-Whole.ensures c.requires.filled rest x.holds) refl (record { inbox = refl; read = refl; begins = refl; frames = refl }) refl refl refl
 
 pub returns-in-Whole-clause-settles : goal.returns-in-Whole-clause-settles
-returns-in-Whole-clause-settles c = settles_in _ states.Beginning of_nothing [] refl refl refl refl
+returns-in-Whole-clause-settles c = settles_in _ states.Beginning of_nothing [] refl refl refl refl refl
 
 pub returns-in-More-clause-less : goal.returns-in-More-clause-less
 returns-in-More-clause-less c = reads_leave (bytes_left c.args.self.now) c.read_on.new.self c.read_on.ensures.less

@@ -28,7 +28,7 @@ returns-else-self-eq-LIMIT-clause-reads c =
     })
 
 pub returns-else-self-eq-LIMIT-clause-settles : goal.returns-else-self-eq-LIMIT-clause-settles
-returns-else-self-eq-LIMIT-clause-settles c = settles_in _ states.Reading of_nothing [] refl refl refl refl
+returns-else-self-eq-LIMIT-clause-settles c = settles_in _ states.Reading of_nothing [] refl refl refl refl refl
 
 pub returns-then-self-eq-LIMIT-clause-less : goal.returns-then-self-eq-LIMIT-clause-less
 returns-then-self-eq-LIMIT-clause-less c = done_leaves _ c.end_so.new.self (Ok (record { frames = c.args.self.now.frames; end = ends.Limit; short = c.args.self.now.short })) c.end_so.ensures

@@ -19,7 +19,7 @@ returns-in-Ok-clause-refuses c =
 
 pub returns-in-Ok-clause-settles : goal.returns-in-Ok-clause-settles
 returns-in-Ok-clause-settles c =
-    settles_in _ (states.Writing (record { bytes = c.in-Ok.bytes; sent = 0; then = after.End (ends.Refused c.args.why c.args.self.now.begins); kept = kept.Nothing })) of_nothing [] refl refl refl refl
+    settles_in _ (states.Writing (record { bytes = c.in-Ok.bytes; sent = 0; then = after.End (ends.Refused c.args.why c.args.self.now.begins); kept = kept.Nothing })) of_nothing [] refl refl refl refl refl
 
 pub returns-in-Err-clause-refuses : goal.returns-in-Err-clause-refuses
 returns-in-Err-clause-refuses c = refuse_broke c.args.self.now c.fail.new.self c.args.why c.fail.ensures

@@ -29,7 +29,7 @@ returns-clause-responds c =
     }) c.next_after-then.ensures
 
 pub returns-clause-settles : goal.returns-clause-settles
-returns-clause-settles c = settles_in _ (states.Writing (record { bytes = c.args.bytes; sent = 0; then = c.next_after-then.result; kept = c.args.kept })) of_nothing [] refl refl refl refl
+returns-clause-settles c = settles_in _ (states.Writing (record { bytes = c.args.bytes; sent = 0; then = c.next_after-then.result; kept = c.args.kept })) of_nothing [] refl refl refl refl refl
 
 pub returns-clause-less : goal.returns-clause-less
 returns-clause-less c =

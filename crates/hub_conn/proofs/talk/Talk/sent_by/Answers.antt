@@ -13,7 +13,7 @@ returns-then-sent-as_bytes-clause-goes c =
 
 pub returns-then-sent-as_bytes-clause-settles : goal.returns-then-sent-as_bytes-clause-settles
 returns-then-sent-as_bytes-clause-settles c =
-    settles_in _ (states.Writing (record { bytes = c.args.out.bytes; sent = c.args.out.sent + c.args.count; then = c.args.out.then; kept = c.args.out.kept })) of_nothing [] refl refl refl refl
+    settles_in _ (states.Writing (record { bytes = c.args.out.bytes; sent = c.args.out.sent + c.args.count; then = c.args.out.then; kept = c.args.out.kept })) of_nothing [] refl refl refl refl refl
 
 pub returns-else-sent-as_bytes-clause-goes : goal.returns-else-sent-as_bytes-clause-goes
 returns-else-sent-as_bytes-clause-goes c =

@@ -23,7 +23,7 @@ returns-in-Go-clause-goes c = λ own bytes steps written y.
 pub returns-in-Go-clause-settles : goal.returns-in-Go-clause-settles
 returns-in-Go-clause-settles c =
     settles_in _ (states.Running c.in-Go.run') of_nothing (turn_tokens c.args.turn) refl
-    (subst (λ (t : Turn). turn_is_fresh t ≡ true) c.in-Go.is c.requires.fresh) refl (sym (ap turn_tokens c.in-Go.is))
+    (subst (λ (t : Turn). turn_is_fresh t ≡ true) c.in-Go.is c.requires.fresh) refl (sym (ap turn_tokens c.in-Go.is)) refl
 
 pub returns-in-Respond-clause-goes : goal.returns-in-Respond-clause-goes
 returns-in-Respond-clause-goes c = λ own bytes steps written y.

@@ -15,7 +15,7 @@ returns-clause-ends c = undoing_stands _ c.args.fault c.args.session c.args.bind
 
 pub returns-clause-settles : goal.returns-clause-settles
 returns-clause-settles c =
-    settles_in _ (states.Undoing c.args.fault (undo.End c.args.session c.args.binding)) (result_cause (Err c.args.fault)) [] refl refl refl refl
+    settles_in _ (states.Undoing c.args.fault (undo.End c.args.session c.args.binding)) (result_cause (Err c.args.fault)) [] refl refl refl refl refl
 
 pub returns-clause-less : goal.returns-clause-less
 returns-clause-less c = leaves_in 4 _ (states.Undoing c.args.fault (undo.End c.args.session c.args.binding)) refl (λ o. omega arith)
