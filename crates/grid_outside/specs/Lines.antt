@@ -1,5 +1,5 @@
 -- What a line tells of a read and of a write that never wait.
-use Rattle.std.specs.Prelude.{◌≡◌, ℕ, ◌<◌, ◌≤◌, List, length, take}
+use Rattle.std.specs.Prelude.{◌≡◌, ℕ, ◌<◌, ◌≤◌, Bool, true, false, List, length, take}
 use Rattle.grid_outside.specs.Counts.{Rose}
 use Rattle.grid_outside.specs.Told.{Gains, LinkView}
 use Rattle.grid_outside.specs.declared.line.Reading.{Reading}
@@ -42,3 +42,10 @@ WritesSo (writing.Bytes n) from old new =
 WritesSo writing.NotNow from old new = new ≡ old
 WritesSo writing.Failed from old new =
     OnlyWrites old new × (new.taken ≡ old.taken) × Rose old.write_faults new.write_faults
+
+-- Of a look whether the other side is gone: only where it is a failed read is counted, and no byte is taken.
+abbrev pub LooksSo : Bool → LinkView → LinkView → Type 0
+LooksSo true old new =
+    OnlyReads old new × (new.given ≡ old.given) × (new.ends ≡ old.ends)
+    × Rose old.read_faults new.read_faults
+LooksSo false old new = new ≡ old

@@ -6,7 +6,7 @@ use Rattle.grid_outside.specs.declared.mem_door.MemDoor.{MemDoor}
 
 -- all that it tells
 abbrev pub door_view : MemDoor → DoorView
-door_view d = record { faults = d.failing.faults; ends = d.ends; bound = d.bound }
+door_view d = record { faults = d.failing.faults; ends = d.ends; host = d.host; bound = d.bound }
 
 -- the links that it has yet to hand out, in order
 abbrev pub to_hand_out : MemDoor → List MemLine

@@ -1,5 +1,5 @@
 -- What a line in memory does.
-use Rattle.std.specs.Prelude.{◌≡◌, ℕ, Bool, true, false, List, Ok, Err}
+use Rattle.std.specs.Prelude.{◌≡◌, ℕ, Bool, true, false, nat_le, List, Option, None, Some, Ok, Err}
 use Rattle.grid_outside.specs.declared.source.Failed.{Failed}
 use Rattle.grid_outside.specs.declared.memory.MemSource.{MemSource}
 use Rattle.grid_outside.specs.declared.memory.MemSink.{MemSink}
@@ -8,7 +8,8 @@ use Rattle.grid_outside.specs.declared.line.Reading.{Reading}
 use Rattle.grid_outside.specs.declared.line.Reading.TheVariants as reading
 use Rattle.grid_outside.specs.declared.line.Writing.{Writing}
 use Rattle.grid_outside.specs.declared.line.Writing.TheVariants as writing
-use Rattle.grid_outside.specs.Memory.{Reads, Writes}
+use Rattle.grid_outside.specs.Counts.{one_more}
+use Rattle.grid_outside.specs.Memory.{HasFailed, Reads, Writes}
 use Rattle.grid_outside.specs.MemLinks.{link_view}
 use Rattle.grid_outside.specs.Told.{LinkView}
 use Rattle.grid_outside.specs.Waiting.{CountsOne, is_waiting}
@@ -36,9 +37,32 @@ pub record LineReads (old new : MemLine) (room filled : List ℕ) (result : Read
   pub goes : ReadsAsPlanned (is_waiting old.reads_wait) result old.link.source new.link.source room filled
   pub sink : new.link.sink ≡ old.link.sink
   pub writes : new.writes_wait ≡ old.writes_wait
+  pub leaves : new.leaves ≡ old.leaves
+  pub looks : new.looks ≡ old.looks
 
 pub record LineWrites (old new : MemLine) (from : List ℕ) (result : Writing) : Type 0 where
   pub counts : CountsOne old.writes_wait new.writes_wait
   pub goes : WritesAsPlanned (is_waiting old.writes_wait) result old.link.sink new.link.sink from
   pub source : new.link.source ≡ old.link.source
   pub reads : new.reads_wait ≡ old.reads_wait
+  pub leaves : new.leaves ≡ old.leaves
+  pub looks : new.looks ≡ old.looks
+
+-- whether the other side is gone at a look
+abbrev pub is_gone : Option ℕ → ℕ → Bool
+is_gone None look = false
+is_gone (Some first) look = nat_le first look
+
+-- a look finds the other side gone just where that is planned
+abbrev pub LooksAsPlanned : Bool → MemSource → MemSource → Type 0
+LooksAsPlanned true old new = HasFailed old new
+LooksAsPlanned false old new = new ≡ old
+
+pub record LineLooks (old new : MemLine) (result : Bool) : Type 0 where
+  pub planned : result ≡ is_gone old.leaves old.looks
+  pub leaves : new.leaves ≡ old.leaves
+  pub looks : new.looks ≡ one_more old.looks
+  pub source : LooksAsPlanned result old.link.source new.link.source
+  pub sink : new.link.sink ≡ old.link.sink
+  pub reads : new.reads_wait ≡ old.reads_wait
+  pub writes : new.writes_wait ≡ old.writes_wait

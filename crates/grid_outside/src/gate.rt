@@ -11,7 +11,7 @@ use crate::source::Failed;
 pub trait Gate {
     type L: Line + Send + Drop;
 
-    type N: NodeLine + Drop;
+    type N: NodeLine + Send + Drop;
 
     /// What tells the thread the time.
     type C: Clock + Send + Drop;

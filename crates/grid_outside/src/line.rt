@@ -1,6 +1,6 @@
-//! A connection of which no call waits.
+//! A connection of which calls need not wait.
 ghost use Rattle.std.specs.Prelude.{length};
-ghost use Rattle.grid_outside.specs.Lines.{ReadsSo, WritesSo};
+ghost use Rattle.grid_outside.specs.Lines.{LooksSo, ReadsSo, WritesSo};
 ghost use Rattle.grid_outside.specs.Told.{LinkView};
 
 /// What came of a read.
@@ -24,8 +24,9 @@ pub enum Writing {
     Failed,
 }
 
-/// Both ways of a connection, as a `Link` has them, of which no call waits: one that would have to answers `NotNow`, and
-/// then all is as before. No clause says when anything is there.
+/// Both ways of a connection, as a `Link` has them. A call that finds nothing there may answer `NotNow`, and then all is as
+/// before. Once a gate has taken the line in no call waits; up to then each may, as those of one from a TCP door do. No
+/// clause says when anything is there.
 pub trait Line {
     /// What it tells, as a link's.
     ghost view: { Self → LinkView };
@@ -37,4 +38,9 @@ pub trait Line {
     /// Takes some bytes from the front of `from`.
     fn write(&mut self, from: &[u8]) -> Writing
         ensures { WritesSo result from.now (view self.old) (view self.new) };
+
+    /// Whether the other side has closed or reset the connection. The look takes no byte and never waits. True is told as
+    /// a read that failed; false says nothing.
+    fn gone(&mut self) -> bool
+        ensures { LooksSo result (view self.old) (view self.new) };
 }

@@ -11,9 +11,10 @@ use crate::memory::{Failing, MemClock};
 use crate::source::Failed;
 use grid_types::Moment;
 use std::alloc::Global;
+use std::net::IpAddr;
 
 /// Hands out its links in order, and is closed once none is left. Its nodes have no reply to give,
-/// each of its clocks begins at the moment that it was made with, and it remembers the port that it was bound at.
+/// each of its clocks begins at the moment that it was made with, and it remembers the address and the port that it was bound at.
 #[derive(Drop)]
 pub struct MemDoor {
     alloc: Global,
@@ -21,6 +22,7 @@ pub struct MemDoor {
     at: Moment,
     failing: Failing,
     ends: u64,
+    host: Option<IpAddr>,
     bound: Option<u16>,
 }
 
@@ -34,7 +36,7 @@ impl MemDoor {
         ensures at { result.at ≡ at }
         ensures plan { Begins fails.items result.failing }
         ensures ends { result.ends ≡ 0 }
-        ensures unbound { result.bound ≡ None }
+        ensures unbound { (result.host ≡ None) × (result.bound ≡ None) }
     {
         MemDoor {
             alloc,
@@ -42,8 +44,16 @@ impl MemDoor {
             at,
             failing: Failing::new(fails),
             ends: 0,
+            host: None,
             bound: None,
         }
+    }
+
+    /// The address that it was set to last.
+    pub fn host(&self) -> Option<IpAddr>
+        ensures { result ≡ self.now.host }
+    {
+        self.host
     }
 
     /// The port that it was bound at last.
@@ -85,6 +95,13 @@ impl Door for MemDoor {
 
     ghost view = { door_view };
 
+    fn listen_at(&mut self, host: IpAddr)
+        ensures view { door_view self.new ≡ record (door_view self.old) { host = Some host } }
+        ensures rest { self.new ≡ record self.old { host = Some host } }
+    {
+        self.host = Some(host);
+    }
+
     fn bind(&mut self, port: u16) -> Result<(), Failed>
         ensures cause { HasCause self.old.failing.faults self.new.failing.faults result }
         ensures ends { self.old.ends ≤ self.new.ends }
@@ -96,6 +113,7 @@ impl Door for MemDoor {
             { failing = self.new.failing; bound = self.new.bound } }
         ensures bound { OnOk result (self.new.bound ≡ Some port) }
         ensures unbound { OnErr result (self.new.bound ≡ self.old.bound) }
+        ensures host { self.new.host ≡ self.old.host }
     {
         if self.failing.next_fails() {
             self.failing.count_fault();
@@ -117,6 +135,7 @@ impl Door for MemDoor {
         ensures open_still { OnErr result (self.new.ends ≡ self.old.ends) }
         ensures at { self.new.at ≡ self.old.at }
         ensures bound { self.new.bound ≡ self.old.bound }
+        ensures host { self.new.host ≡ self.old.host }
     {
         if self.failing.next_fails() {
             self.failing.count_fault();
@@ -133,6 +152,7 @@ impl Door for MemDoor {
         ensures cause { HasCause self.old.failing.faults self.new.failing.faults result }
         ensures ends { self.old.ends ≤ self.new.ends }
         ensures bound { self.new.bound ≡ self.old.bound }
+        ensures host { self.new.host ≡ self.old.host }
         ensures fails { is_err result ≡ is_due self.old.failing }
         ensures counts { CountsCall self.old.failing self.new.failing result }
         ensures rest { self.new ≡ record self.old { failing = self.new.failing } }
@@ -149,6 +169,7 @@ impl Door for MemDoor {
         ensures faults { self.old.failing.faults ≤ self.new.failing.faults }
         ensures ends { self.old.ends ≤ self.new.ends }
         ensures bound { self.new.bound ≡ self.old.bound }
+        ensures host { self.new.host ≡ self.old.host }
         ensures links { to_hand_out self.new ≡ to_hand_out self.old }
         ensures give { to_give result ≡ [] }
         ensures made { exchanges_made result ≡ [] }
@@ -162,6 +183,7 @@ impl Door for MemDoor {
         ensures faults { self.old.failing.faults ≤ self.new.failing.faults }
         ensures ends { self.old.ends ≤ self.new.ends }
         ensures bound { self.new.bound ≡ self.old.bound }
+        ensures host { self.new.host ≡ self.old.host }
         ensures links { to_hand_out self.new ≡ to_hand_out self.old }
         ensures at { clock_at result ≡ min LAST_MOMENT self.old.at.0 }
         ensures pauses { clock_pauses result ≡ record { count = 0; sum = 0 } }

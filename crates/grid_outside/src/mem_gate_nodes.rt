@@ -47,6 +47,10 @@ impl NodeLine for MemGateNodes {
     ghost one = { λ x. one_under_way NodesGive (λ n. n.failing.faults)
         x.line.before.value x.line.came x.line.nodes };
 
+    fn allow(&mut self, ms: u64) {
+        self.line.allow(ms);
+    }
+
     fn ask(&mut self, alloc: Global, address: &NodeAddress, request: &NodeRequest<'_>) {
         self.line.ask(alloc, address, request);
     }

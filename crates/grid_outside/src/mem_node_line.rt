@@ -68,6 +68,10 @@ impl<N: NodeLink + Drop> NodeLine for MemNodeLine<N> {
 
     ghost one = { λ x. one_under_way N.gives N.faults x.before.value x.came x.nodes };
 
+    fn allow(&mut self, _ms: u64)
+        ensures same { self.new ≡ self.old }
+    {}
+
     fn ask(&mut self, alloc: Global, address: &NodeAddress, request: &NodeRequest<'_>) {
         self.before = Snapshot::of(&self.nodes);
         self.came = Some(self.nodes.exchange(alloc, address, request));

@@ -26,6 +26,12 @@ pub trait NodeLine {
     /// Which exchange is under way: with the node at this address, that is asked so; or none.
     ghost asks: { Self → Option (List ℕ × Ask) → Type 0 };
 
+    /// How long the exchange that is begun next may take, in milliseconds. Where it isn't told, or is more than the line itself
+    /// allows, the line's own limit stands. No clause says when an exchange is over.
+    fn allow(&mut self, ms: u64)
+        ensures asks { (under : Option (List ℕ × Ask)) → asks self.old under → asks self.new under }
+        ensures same { state self.new ≡ state self.old };
+
     /// Begins an exchange. None may be under way, so that no request is sent again. One that finds no memory is begun all the
     /// same, and what comes of it is `Memory`.
     fn ask(&mut self, alloc: Global, address: &NodeAddress, request: &NodeRequest<'_>)

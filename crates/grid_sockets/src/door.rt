@@ -11,7 +11,10 @@ use grid_outside::{Door, Failed};
 use mio::Waker;
 use std::alloc::{AllocGlobal, Global};
 use std::io::ErrorKind;
-use std::net::{IpAddr, Ipv4Addr, Net, OpenListener, OpenStream, TcpListener, TcpStream};
+use std::net::{
+    IpAddr, Ipv4Addr, Net, OpenListener, OpenStream, SocketAddr, TcpListener, TcpStream,
+};
+use std::os::fd::AsFd;
 use std::sync::Arc;
 use std::time::Duration;
 use std::{io, time};
@@ -50,21 +53,10 @@ impl<R: Net<Listener = TcpListener, Stream = TcpStream> + AllocGlobal + Drop> Tc
         ensures faults { result.faults ≡ 0 }
         ensures ends { result.ends ≡ 0 }
     {
-        TcpDoor::at(runtime, IpAddr::V4(Ipv4Addr::UNSPECIFIED), limit)
-    }
-
-    /// The same at this address.
-    pub fn at(runtime: R, host: IpAddr, limit: Option<u64>) -> Self
-        ensures host { result.host ≡ host }
-        ensures limit { result.left ≡ limit }
-        ensures unbound { (result.listener ≡ None) × (result.bound ≡ None) }
-        ensures faults { result.faults ≡ 0 }
-        ensures ends { result.ends ≡ 0 }
-    {
         let bells = Vec::new(runtime.alloc());
         TcpDoor {
             runtime,
-            host,
+            host: IpAddr::V4(Ipv4Addr::UNSPECIFIED),
             left: limit,
             listener: None,
             bells,
@@ -73,6 +65,15 @@ impl<R: Net<Listener = TcpListener, Stream = TcpStream> + AllocGlobal + Drop> Tc
             ends: 0,
         }
     }
+}
+
+/// A listener at the address of the machine, whose calls wait. As many connections as the system allows may wait to be accepted: one
+/// that finds no room there is tried again by its client's system after a second.
+fn listening<R: Net>(net: &R, at: SocketAddr) -> io::Result<TcpListener> {
+    let ready = mio::net::TcpListener::bind(net, at)?;
+    let listener = TcpListener::from(ready.as_fd().try_clone_to_owned()?);
+    listener.set_nonblocking(false)?;
+    Ok(listener)
 }
 
 /// What an error of accepting concerns.
@@ -152,7 +153,18 @@ impl<
 
     type G = TcpGate<R>;
 
-    ghost view = { λ d. record { faults = d.faults; ends = d.ends; bound = d.bound } };
+    ghost view = { λ d. record {
+      faults = d.faults;
+      ends = d.ends;
+      host = Some d.host;
+      bound = d.bound;
+    } };
+
+    fn listen_at(&mut self, host: IpAddr)
+        ensures rest { self.new ≡ record self.old { host = host } }
+    {
+        self.host = host;
+    }
 
     fn bind(&mut self, port: u16) -> Result<(), Failed>
         ensures cause { HasCause self.old.faults self.new.faults result }
@@ -162,9 +174,9 @@ impl<
         ensures listens { OnOk result (IsSome self.new.listener) }
         ensures err { OnErr result (self.new.listener ≡ self.old.listener) }
         ensures limit { self.new.left ≡ self.old.left }
-        ensures host { self.new.host ≡ self.old.host }
+        ensures host { Some self.new.host ≡ Some self.old.host }
     {
-        match TcpListener::bind(&self.runtime, (self.host, port)) {
+        match listening(&self.runtime, SocketAddr::new(self.host, port)) {
             Ok(listener) => {
                 self.listener = Some(listener);
                 self.bound = Some(port);
@@ -186,6 +198,7 @@ impl<
         ensures limit { IfOk result (IsCounted self.old.left self.new.left) }
         ensures failed { OnErr result (self.new.left ≡ self.old.left) }
         ensures bound { self.new.bound ≡ self.old.bound }
+        ensures host { Some self.new.host ≡ Some self.old.host }
         ensures listens { self.new.listener ≡ self.old.listener }
     {
         // Who waits at a gate may have been handed the link before.
@@ -216,6 +229,7 @@ impl<
         ensures cause { HasCause self.old.faults self.new.faults result }
         ensures ends { self.old.ends ≤ self.new.ends }
         ensures bound { self.new.bound ≡ self.old.bound }
+        ensures host { Some self.new.host ≡ Some self.old.host }
         ensures limit { self.new.left ≡ self.old.left }
         ensures listens { self.new.listener ≡ self.old.listener }
     {
@@ -232,6 +246,7 @@ impl<
         ensures faults { self.old.faults ≤ self.new.faults }
         ensures ends { self.old.ends ≤ self.new.ends }
         ensures bound { self.new.bound ≡ self.old.bound }
+        ensures host { Some self.new.host ≡ Some self.old.host }
         ensures limit { self.new.left ≡ self.old.left }
         ensures rest { self.new ≡ self.old }
         ensures fresh { result.faults ≡ 0 }
@@ -243,6 +258,7 @@ impl<
         ensures faults { self.old.faults ≤ self.new.faults }
         ensures ends { self.old.ends ≤ self.new.ends }
         ensures bound { self.new.bound ≡ self.old.bound }
+        ensures host { Some self.new.host ≡ Some self.old.host }
         ensures limit { self.new.left ≡ self.old.left }
         ensures rest { self.new ≡ self.old }
         ensures fresh { result.last ≡ 0 }

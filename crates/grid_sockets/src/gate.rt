@@ -2,6 +2,8 @@
 ghost use Rattle.std.specs.Prelude.{◌≡◌, ℕ, List, ◌++◌, None, IfOk, vec_capacity};
 
 use crate::exchanges::TcpNodeLine;
+use crate::holding::{Dues, dues, name_due};
+use crate::late::{LATE, Lates, lates, sweep_late};
 use crate::lines::TcpLine;
 use crate::machine::{MachineClock, shown};
 use crate::parting::{Partings, partings, sweep};
@@ -22,6 +24,9 @@ const LONGEST_WAIT_MS: u64 = 3_600_000;
 /// How often connections that part are read on, in milliseconds.
 const SWEEP_MS: u64 = 10;
 
+/// How often starts that were given up are read on, in milliseconds.
+const SWEEP_LATE_MS: u64 = 200;
+
 /// The place of the bell, at which no seat stands.
 const BELL: usize = usize::MAX;
 
@@ -29,6 +34,7 @@ const BELL: usize = usize::MAX;
 #[derive(Drop)]
 pub struct TcpGate<R: Net + time::Clock + Copy + Drop> {
     runtime: R,
+    alloc: Global,
     poll: Poll,
     registry: Arc<Registry>,
     bell: Arc<Waker>,
@@ -36,6 +42,9 @@ pub struct TcpGate<R: Net + time::Clock + Copy + Drop> {
     named: Vec<usize>,
     partings: Partings,
     swept: u64,
+    lates: Lates,
+    swept_late: u64,
+    dues: Dues,
 }
 
 impl<R: Net + time::Clock + Copy + Drop> TcpGate<R> {
@@ -46,6 +55,7 @@ impl<R: Net + time::Clock + Copy + Drop> TcpGate<R> {
         let bell = Waker::new(&registry, Token(BELL))?;
         Ok(TcpGate {
             runtime,
+            alloc,
             poll,
             registry: Arc::new(alloc, registry)?,
             bell: Arc::new(alloc, bell)?,
@@ -53,6 +63,9 @@ impl<R: Net + time::Clock + Copy + Drop> TcpGate<R> {
             named: Vec::with_capacity(alloc, EVENTS)?,
             partings: partings(alloc)?,
             swept: 0,
+            lates: lates(alloc)?,
+            swept_late: 0,
+            dues: dues(alloc)?,
         })
     }
 
@@ -71,6 +84,28 @@ impl<R: Net + time::Clock + Copy + Drop> TcpGate<R> {
         sweep(&self.partings, now)
     }
 
+    /// Reads starts on that were given up, and says whether any is left.
+    fn is_late(&mut self) -> bool {
+        let now = shown(&self.runtime);
+        if now < self.swept_late.saturating_add(SWEEP_LATE_MS) {
+            return true;
+        }
+        self.swept_late = now;
+        sweep_late(&self.lates, &self.runtime, &self.registry, self.alloc)
+    }
+
+    /// How long the system may be asked, in milliseconds: until something is to be read on.
+    fn longest_wait(&mut self) -> u64 {
+        let parts = self.parts();
+        let is_late = self.is_late();
+        let holds = name_due(&self.dues, shown(&self.runtime), &mut self.named);
+        match (parts || holds, is_late) {
+            (true, _) => SWEEP_MS,
+            (false, true) => SWEEP_LATE_MS,
+            (false, false) => LONGEST_WAIT_MS,
+        }
+    }
+
     /// Asks the system which places may go on, for so long.
     fn ask_system(&mut self, ms: u64) {
         let _ = self
@@ -80,11 +115,11 @@ impl<R: Net + time::Clock + Copy + Drop> TcpGate<R> {
     }
 }
 
-/// Names the places of the events, but for the bell's.
+/// Names the places of the events, but for those at which no seat stands.
 fn name_all(events: &Events, named: &mut Vec<usize>) {
     for event in events.iter() {
         let place = event.token().0;
-        if place != BELL && named.len() < named.capacity() {
+        if place != BELL && place != LATE && named.len() < named.capacity() {
             named.push_reserved(place);
         }
     }
@@ -113,9 +148,8 @@ impl<R: Net + time::Clock + Copy + Send + Drop> Gate for TcpGate<R> {
     type C = MachineClock<R>;
 
     fn wait(&mut self, ms: u64, ready: &mut Vec<usize>) {
-        let parts = self.parts();
+        let longest = self.longest_wait();
         if self.named.is_empty() {
-            let longest = if parts { SWEEP_MS } else { LONGEST_WAIT_MS };
             self.ask_system(ms.min(longest));
         }
         hand_over(&mut self.named, ready);
@@ -126,13 +160,23 @@ impl<R: Net + time::Clock + Copy + Send + Drop> Gate for TcpGate<R> {
         place: usize,
         link: TcpLine<R>,
     ) -> Result<(TcpLine<R>, TcpNodeLine<R>), Failed> {
-        match link.taken_in(&self.registry, Token(place), self.partings.clone().ok()) {
+        match link.taken_in(
+            &self.registry,
+            Token(place),
+            self.partings.clone().ok(),
+            self.dues.clone().ok(),
+        ) {
             Ok(link) => Ok((link, self.nodes(place))),
             Err(_) => Err(Failed),
         }
     }
 
     fn nodes(&mut self, place: usize) -> TcpNodeLine<R> {
-        TcpNodeLine::new(self.runtime, self.registry.clone().ok(), Token(place))
+        TcpNodeLine::new(
+            self.runtime,
+            self.registry.clone().ok(),
+            Token(place),
+            self.lates.clone().ok(),
+        )
     }
 }

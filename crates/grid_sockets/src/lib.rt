@@ -3,9 +3,13 @@
 //! Choices that concern this crate alone:
 //!
 //! - Nothing may be silent for ever: a client 30 s on a new connection and 300 s later, as long as a session may be idle by
-//!   default; a node 10 s until it is connected, 30 s where the hub itself ends a session, and else 600 s, since of a start
-//!   that is given up while its node still makes it nobody knows. A later call fails, so it counts as a fault; no contract
-//!   speaks of it. Where no call waits, it is the next call that finds this: whoever drives such lines tries each now and then.
+//!   default; a node 10 s until it is connected, 30 s where the hub itself ends a session, and else 600 s, or as long as
+//!   the exchange was allowed to take. A later call fails, so it counts as a fault; no contract speaks of it. Where no call waits, it is the next call that finds this: whoever drives such lines tries each now and then.
+//! - A start that is given up because its time is over is read on for up to 600 s from its beginning, beside all else: where its
+//!   node made the session after all, the node is asked to end it.
+//! - Where a client sends nothing more, and an answer comes 250 ms or more after its last byte, the last byte of the answer is held
+//!   back for 100 ms: where the client was ended its system refuses the others, and the write fails. So a session that was created
+//!   for it is ended. Whoever only shut its writing half down has its answer then.
 //! - `accept` goes on by itself after what concerns one client and, with a pause of 15 ms, while the system lacks
 //!   descriptors, without a count of tries. Only what ends the listener is a fault, so no client ends the hub.
 //! - A client's line waits from `accept` on, in each call for at most 30 s, so that a thread may serve it alone. Once a gate
@@ -18,10 +22,13 @@ mod connections;
 mod door;
 mod exchanges;
 mod gate;
+mod holding;
+mod late;
 mod lines;
 mod machine;
 mod parting;
 mod silence;
+mod under_way;
 
 pub use connections::TcpNodes;
 pub use door::TcpDoor;

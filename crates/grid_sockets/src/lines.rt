@@ -1,7 +1,9 @@
 //! A client's connection over TCP.
-ghost use Rattle.std.specs.Prelude.{◌≡◌, ℕ, ◌<◌, ◌≤◌, length, IfOk};
+ghost use Rattle.std.specs.Prelude.{◌≡◌, ℕ, ◌<◌, ◌≤◌, length, IfOk, IfSome};
+ghost use Rattle.grid_outside.specs.Lines.{WritesSo};
 ghost use Rattle.grid_outside.specs.Told.{counting};
 
+use crate::holding::{Dues, Holding};
 use crate::machine::shown;
 use crate::parting::{Partings, part, part_waiting};
 use crate::silence::Silence;
@@ -25,6 +27,17 @@ enum Stream {
     Ready(mio::net::TcpStream),
 }
 
+/// What is known of a client.
+#[derive(Clone, Copy, PartialEq, Eq)]
+enum Side {
+    /// It may still send.
+    Open,
+    /// It sends nothing more; it was ended, or shut its writing half down.
+    Shut,
+    /// Nobody is there.
+    Gone,
+}
+
 impl Stream {
     fn read(&mut self, into: &mut [u8]) -> io::Result<usize>
         ensures count { IfOk result (λ count. count ≤ length into.new) }
@@ -42,6 +55,19 @@ impl Stream {
         match self {
             Stream::Waiting(stream) => stream.write(from),
             Stream::Ready(stream) => stream.write(from),
+        }
+    }
+
+    /// What is known of the other side. One whose calls wait is not looked at.
+    fn side(&self) -> Side {
+        let Stream::Ready(stream) = self else {
+            return Side::Open;
+        };
+        match stream.peek(&mut [0]) {
+            Ok(0) => Side::Shut,
+            Ok(_) => Side::Open,
+            Err(error) if error.kind() == ErrorKind::WouldBlock => Side::Open,
+            Err(_) => Side::Gone,
         }
     }
 
@@ -68,6 +94,7 @@ pub struct TcpLine<R: time::Clock + Drop> {
     ends: u64,
     has_read: bool,
     silence: Silence,
+    holding: Holding,
 }
 
 impl<R: time::Clock + Drop> TcpLine<R> {
@@ -104,6 +131,7 @@ impl<R: time::Clock + Drop> TcpLine<R> {
             ends: 0,
             has_read: false,
             silence: Silence::NONE,
+            holding: Holding::none(),
         }
     }
 
@@ -114,6 +142,7 @@ impl<R: time::Clock + Drop> TcpLine<R> {
         registry: &Registry,
         place: Token,
         partings: Option<Partings>,
+        dues: Option<Dues>,
     ) -> io::Result<Self>
         ensures read_faults { IfOk result (λ l. l.read_faults ≡ self.read_faults) }
         ensures write_faults { IfOk result (λ l. l.write_faults ≡ self.write_faults) }
@@ -128,6 +157,7 @@ impl<R: time::Clock + Drop> TcpLine<R> {
             ends,
             has_read,
             silence,
+            holding: _,
         } = self;
         let mut stream = stream.ready()?;
         registry.register(&mut stream, place, Interest::READABLE | Interest::WRITABLE)?;
@@ -140,7 +170,50 @@ impl<R: time::Clock + Drop> TcpLine<R> {
             ends,
             has_read,
             silence,
+            holding: Holding::at(place.0, dues),
         })
+    }
+
+    /// How many of so many bytes may be written now; None: none yet. Err: nobody is there to take any.
+    fn room(&mut self, count: usize) -> Result<Option<usize>, ()>
+        ensures room { IfOk result (λ told. IfSome told (λ room. (room ≤ count)
+            × (0 < count → 0 < room))) }
+        ensures read_faults { self.new.read_faults ≡ self.old.read_faults }
+        ensures write_faults { self.new.write_faults ≡ self.old.write_faults }
+        ensures ends { self.new.ends ≡ self.old.ends }
+    {
+        let now = shown(&self.runtime);
+        if !self.holding.asks(now) {
+            return Ok(Some(count));
+        }
+        match self.stream.side() {
+            Side::Open => Ok(Some(count)),
+            Side::Shut => Ok(self.holding.room(count, now)),
+            Side::Gone => Err(()),
+        }
+    }
+
+    /// Writes some of these bytes, where some may be written.
+    fn write_some(&mut self, from: &[u8]) -> Writing
+        ensures { WritesSo result from.now
+            (counting self.old.read_faults self.old.write_faults self.old.ends)
+            (counting self.new.read_faults self.new.write_faults self.new.ends) }
+    {
+        match self.stream.write(from) {
+            Ok(count) if count > 0 || from.is_empty() => {
+                self.silence.end();
+                Writing::Bytes(count)
+            }
+            Err(error)
+                if error.kind() == ErrorKind::WouldBlock
+                    && !self.silence.has_lasted(shown(&self.runtime), NEXT_BYTE_MS) => {
+                Writing::NotNow
+            }
+            _ => {
+                self.write_faults = self.write_faults.saturating_add(1);
+                Writing::Failed
+            }
+        }
     }
 }
 
@@ -156,6 +229,7 @@ impl<R: time::Clock + Drop> Drop for TcpLine<R> {
             ends,
             has_read: _,
             silence: _,
+            holding: _,
         } = self;
         let is_open = read_faults == 0 && write_faults == 0 && ends == 0;
         match (stream, partings) {
@@ -180,6 +254,7 @@ impl<R: time::Clock + Drop> Line for TcpLine<R> {
             Ok(count) => {
                 self.has_read = true;
                 self.silence.end();
+                self.holding.hears(shown(&self.runtime));
                 Reading::Bytes(count)
             }
             Err(error) => {
@@ -200,20 +275,23 @@ impl<R: time::Clock + Drop> Line for TcpLine<R> {
 
     /// A write that takes nothing of a piece that is not empty has failed.
     fn write(&mut self, from: &[u8]) -> Writing {
-        match self.stream.write(from) {
-            Ok(count) if count > 0 || from.is_empty() => {
-                self.silence.end();
-                Writing::Bytes(count)
-            }
-            Err(error)
-                if error.kind() == ErrorKind::WouldBlock
-                    && !self.silence.has_lasted(shown(&self.runtime), NEXT_BYTE_MS) => {
-                Writing::NotNow
-            }
-            _ => {
+        match self.room(from.len()) {
+            Ok(Some(room)) => self.write_some(&from[..room]),
+            Ok(None) => Writing::NotNow,
+            Err(()) => {
                 self.write_faults = self.write_faults.saturating_add(1);
                 Writing::Failed
             }
         }
+    }
+
+    /// A client that only shuts its writing half down has gone too. One whose next request is there already is not looked
+    /// behind.
+    fn gone(&mut self) -> bool {
+        if self.stream.side() == Side::Open {
+            return false;
+        }
+        self.read_faults = self.read_faults.saturating_add(1);
+        true
     }
 }
