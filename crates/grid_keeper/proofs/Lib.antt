@@ -9,3 +9,6 @@ mod FitLemmas
 mod AlongLemmas
 mod TableLemmas
 mod ReplayLemmas
+mod SettleLemmas
+mod QuitLemmas
+mod OwnLemmas

@@ -47,6 +47,7 @@ pub record Holds (H : List Entry) (left : Left) : Type 0 where
 -- the token that a call is handed is not among these
 abbrev pub Spares : Call → Left → Type 0
 Spares (Call.poll t) left = get nat_cmp left.tickets t.request ≡ None
+Spares (Call.withdraw t) left = get nat_cmp left.tickets t.request ≡ None
 Spares (Call.bind t x caps) left = get nat_cmp left.reservations t.request ≡ None
 Spares (Call.fail t w) left = get nat_cmp left.reservations t.request ≡ None
 Spares (Call.freed t) left = get nat_cmp left.closings (place_of t.slot) ≡ None
@@ -197,10 +198,11 @@ pub record HasGiven (reply : Reply) (left : Left) : Type 0 where
 -- ---- tokens that are taken out one after the other
 
 -- a ticket was taken out
-pub record LostTicket (H : List Entry) (new : Left) (t : Ticket) : Type 0 where
+pub record LostTicket (H : List Entry) (old new : Left) (t : Ticket) : Type 0 where
   pub good : IsTicket H t.request t
   pub holds : Holds H new
   pub gone : get nat_cmp new.tickets t.request ≡ None
+  pub others : (wanted : Wanted) → HasAll wanted old → HasAll (but_ticket t.request wanted) new
 
 -- a reservation was taken out
 pub record LostReservation (H : List Entry) (old new : Left) (t : Reservation) : Type 0 where
@@ -223,8 +225,8 @@ pub record LostNothing (old new : Left) : Type 0 where
 
 -- one was taken out, if there is one
 abbrev pub PopsTicket : Left → Option Ticket → Left → Type 0
-PopsTicket old (Some t) new = (H : List Entry) → Holds H old → LostTicket H new t
-PopsTicket old None new = (r : ℕ) → get nat_cmp new.tickets r ≡ None
+PopsTicket old (Some t) new = (H : List Entry) → Holds H old → LostTicket H old new t
+PopsTicket old None new = LostNothing old new × ((r : ℕ) → get nat_cmp new.tickets r ≡ None)
 
 abbrev pub PopsReservation : Left → Option Reservation → Left → Type 0
 PopsReservation old (Some t) new = (H : List Entry) → Holds H old → LostReservation H old new t

@@ -3,3 +3,4 @@ pub mod Keeping
 pub mod Holds
 pub mod Opening
 pub mod Settling
+pub mod Runs

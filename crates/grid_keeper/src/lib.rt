@@ -8,10 +8,13 @@ mod large_rows;
 mod laws;
 mod left;
 mod opening;
+mod own;
+mod settling;
 mod sizes;
 mod small_rows;
 
 pub use kept_hub::{KeptFault, KeptHub};
-pub use laws::rows_tell_one_history;
+pub use laws::{nothing_was_called, rows_tell_one_history, ways_join};
 pub use left::Left;
 pub use opening::OpenFault;
+pub use settling::settle;

@@ -135,6 +135,7 @@ fn make_all<K: Keeper>(
     ensures disk { K.disk keeper.new ≡ K.disk keeper.old }
     ensures made { OnOk result (MadeAll hub.old.config (K.disk keeper.old) hub.new left.new) }
     ensures bad { IfErr result (λ e. BadAny hub.old.config (K.disk keeper.old) e) }
+    ensures later { K.faults keeper.old ≤ K.faults keeper.new }
     ensures read { IsErrOf result fault.Read → Rose (K.faults keeper.old) (K.faults keeper.new) }
 {
     for index in 0..u64::MAX {
@@ -160,6 +161,7 @@ impl<K: Keeper> KeptHub<K> {
         ensures bad { IfErr result (λ e. BadAny config (K.disk keeper) e.0) }
         ensures back { IfErr result (λ e. K.disk e.1 ≡ K.disk keeper) }
         ensures read { IfErr result (λ e. e.0 ≡ fault.Read → Rose (K.faults keeper) (K.faults e.1)) }
+        ensures later { IfOk result (λ made. K.faults keeper ≤ K.faults made.0.keeper) }
     {
         let mut kept = keeper;
         let Ok(mut hub) = LocalHub::new(alloc, config) else {

@@ -1,5 +1,5 @@
 -- The pauses and starts of a New Session.
-use Rattle.std.proofs.Common.{◌≡◌, ◌⊎◌, inl, inr, ℕ, ◌+◌, ◌*◌, ◌<◌, ◌≤◌, max, Bool, true, false, ◌&&◌, List, [], ◌∷◌, ◌++◌, refl, sym, ap, subst, ◌∙◌, arith}
+use Rattle.std.proofs.Common.{◌≡◌, ◌≢◌, ◌⊎◌, inl, inr, ℕ, ◌+◌, ◌*◌, ◌<◌, ◌≤◌, max, Bool, true, false, ◌&&◌, List, [], ◌∷◌, ◌++◌, refl, sym, ap, subst, ◌∙◌, arith}
 use Rattle.std.specs.Prelude.{Option, None, Some, Result, Ok, nat_le}
 use Rattle.http_frames.specs.Frames.{Request}
 use Rattle.grid_outside.specs.Told.{later_by}
@@ -29,8 +29,8 @@ use Rattle.router_core.specs.Routes.{Route, new_session}
 use Rattle.node_client.specs.Runs.{Still}
 use Rattle.node_client.specs.Start.{Fails, failed, Frees, freed, Closes, quits, leaves, Returns, returned, Binds, bound, refuses, lacks, Start, unwritten, fails, names}
 use Rattle.node_client.specs.Steps.{Step, Called, Spent, Exchanged, Paused}
-use Rattle.conn_script.specs.NewSession.{SpentStart, spent_at, Rounds, not_yet, poll_lacks, yours, start_spent, settled, poll_spent, Asks, queued, not_queued, enqueue_spent, NewSession, no_choices, asks}
-use Rattle.conn_script.specs.Responses.{Response}
+use Rattle.conn_script.specs.NewSession.{SpentStart, spent_at, Rounds, not_yet, poll_lacks, left_waiting, left_lacking, yours, start_spent, settled, poll_spent, Asks, queued, not_queued, enqueue_spent, NewSession, no_choices, asks}
+use Rattle.conn_script.specs.Responses.{Response, left}
 use Rattle.conn_script.specs.Script.{ByRoute, Script, body_of, route}
 use Rattle.local_driver.specs.World.{Answered, AnswersAt}
 use Rattle.play_words.specs.declared.play.PlayNode.{PlayNode}
@@ -290,23 +290,25 @@ module _ (newest : CallsKeepNewest) (ticking : CallsKeepTheClock) (due : QueuedD
   ahead_of : (H : List Entry) (t : Ticket) (at m d : ℕ) → at ≡ m → deadline_of H t.request ≡ d → IsEarly H t at → m < d
   ahead_of H t at m d e due h = let lt = below_max at (clock H) (deadline_of H t.request) h in omega (arith, lt, e, due)
 
-  rounds_within : (t : Ticket) (X : List Step) (R : Response) (H L : List Entry) (m k d : ℕ) → Rounds t X R → Answered c H X L → Still m X k → legal c L ≡ true →
+  rounds_within : (t : Ticket) (X : List Step) (R : Response) (H L : List Entry) (m k d : ℕ) → Rounds t X R → R ≢ left → Answered c H X L → Still m X k → legal c L ≡ true →
       clock H ≤ m → deadline_of H t.request ≡ d → d ≤ last_moment → RoundsWithin H X m d t.request
   unfolding Answered Still
-  rounds_within t X R H L m k d (not_yet {steps = V} at u w) a s l on_time due far =
+  rounds_within t X R H L m k d (left_waiting at u w) n a s l on_time due far = absurd (n refl)
+  rounds_within t X R H L m k d (left_lacking at w) n a s l on_time due far = absurd (n refl)
+  rounds_within t X R H L m k d (not_yet {steps = V} at u w) n a s l on_time due far =
       let x = exact c H (Call.poll t) at (Reply.not_yet u) a.0 a.1 in
       let y = early.not_yet c H 0 t u at x.0 in
       let ahead = ahead_of H t at m d s.0 due y.0 in
       let rest = subst (λ (G : List Entry). Answered c G V L) (x.1 ∙ y.2) a.2 in
-      let next = rounds_within u V R H L (later_by m 15) k d w rest s.1 l (on_later (clock H) m d on_time ahead far) (ap (deadline_of H) y.1 ∙ due) far in
+      let next = rounds_within u V R H L (later_by m 15) k d w n rest s.1 l (on_later (clock H) m d on_time ahead far) (ap (deadline_of H) y.1 ∙ due) far in
       record { waits = one_pause (pauses_in V) m d ahead far next.waits; count = subst (λ (q : ℕ). starts_in V ≤ starts_left H q) y.1 next.count }
-  rounds_within t X R H L m k d (poll_lacks {steps = V} at w) a s l on_time due far =
+  rounds_within t X R H L m k d (poll_lacks {steps = V} at w) n a s l on_time due far =
       let y = none_early H t at a.0 a.1 in
       let ahead = ahead_of H t at m d s.0 due y.0 in
       let rest = subst (λ (G : List Entry). Answered c G V L) y.1 a.2 in
-      let next = rounds_within t V R H L (later_by m 15) k d w rest s.1 l (on_later (clock H) m d on_time ahead far) due far in
+      let next = rounds_within t V R H L (later_by m 15) k d w n rest s.1 l (on_later (clock H) m d on_time ahead far) due far in
       record { waits = one_pause (pauses_in V) m d ahead far next.waits; count = next.count }
-  rounds_within t X R H L m k d (yours {own = D} {steps = V} at u r st w) a s l on_time due far =
+  rounds_within t X R H L m k d (yours {own = D} {steps = V} at u r st w) n a s l on_time due far =
       let x = exact c H (Call.poll t) at (Reply.yours u r) a.0 a.1 in
       let legal_mid = legal_before c a.0 L (D ++ V) a.2 l in
       let gave = starts.yours c H 0 t u r at (legal_one c H (Call.poll t) at (Some (Reply.yours u r)) a.0 a.1 legal_mid) x.0 in
@@ -317,7 +319,7 @@ module _ (newest : CallsKeepNewest) (ticking : CallsKeepTheClock) (due : QueuedD
       let quiet = start_quiet r D st in
       let kept = keeps_all D a.0 b.middle m b.at u.request quiet b.first b.still in
       let same = quiet_still D m b.at quiet b.still in
-      let next = rounds_within u V R b.middle L m k d w b.rest (subst (λ (i : ℕ). Still i V k) same b.goes_on) l (kept.on_time mid_time)
+      let next = rounds_within u V R b.middle L m k d w n b.rest (subst (λ (i : ℕ). Still i V k) same b.goes_on) l (kept.on_time mid_time)
       (kept.deadline ∙ ap (deadline_of a.0) gave.same_request ∙ mid_due) far in
       let left : starts_left b.middle u.request ≤ starts_left a.0 t.request =
       subst (λ (q : ℕ). starts_left b.middle u.request ≤ starts_left a.0 q) gave.same_request kept.fewer in
@@ -325,22 +327,22 @@ module _ (newest : CallsKeepNewest) (ticking : CallsKeepTheClock) (due : QueuedD
         waits = subst (λ (n : ℕ). PausesWithin n m d) (sym (quiet_pauses D V quiet)) next.waits;
         count = omega (arith, quiet_starts D V quiet, next.count, left, fewer);
       }
-  rounds_within t X R H L m k d (start_spent {own = D} at u r spent) a s l on_time due far = absurd (spent_start_not_answered c a.0 L r D spent a.2)
-  rounds_within t X R H L m k d (settled at o) a s l on_time due far = record { waits = inl refl; count = omega arith }
-  rounds_within t X R H L m k d (poll_spent at) a s l on_time due far = absurd a
+  rounds_within t X R H L m k d (start_spent {own = D} at u r spent) n a s l on_time due far = absurd (spent_start_not_answered c a.0 L r D spent a.2)
+  rounds_within t X R H L m k d (settled at o) n a s l on_time due far = record { waits = inl refl; count = omega arith }
+  rounds_within t X R H L m k d (poll_spent at) n a s l on_time due far = absurd a
 
   -- ---- a New Session
 
-  asks_within : (choices : List (List Cap)) (X : List Step) (R : Response) (H L : List Entry) (m k : ℕ) → Asks choices X R → Answered c H X L → Still m X k → legal c L ≡ true →
+  asks_within : (choices : List (List Cap)) (X : List Step) (R : Response) (H L : List Entry) (m k : ℕ) → Asks choices X R → R ≢ left → Answered c H X L → Still m X k → legal c L ≡ true →
       clock H ≤ m → IsBounded c H choices X
   unfolding Answered Still
-  asks_within choices X R H L m k (queued {steps = V} at t w) a s l on_time =
+  asks_within choices X R H L m k (queued {steps = V} at t w) n a s l on_time =
       let x = exact c H (Call.enqueue choices) at (Reply.queued t) a.0 a.1 in
       let legal_mid = legal_before c a.0 L V a.2 l in
       let by_then : deadline_of a.0 t.request ≤ max at (clock H) + queue_time c choices =
       subst (λ (G : List Entry). deadline_of G t.request ≤ max at (clock H) + queue_time c choices) (sym x.1) (due c H 0 choices at t x.0) in
       let mid_time = clock_one H (Call.enqueue choices) at m (Some (Reply.queued t)) a.0 a.1 s.0 on_time in
-      let next = rounds_within t V R a.0 L m k (deadline_of a.0 t.request) w a.2 s.1 l mid_time refl (moments c a.0 t.request legal_mid) in
+      let next = rounds_within t V R a.0 L m k (deadline_of a.0 t.request) w n a.2 s.1 l mid_time refl (moments c a.0 t.request legal_mid) in
       let fewer = starts.registered a.0 t.request in
       let registered : registered_count a.0 ≤ registered_count H = subst (λ (G : List Entry). registered_count G ≤ registered_count H) (sym x.1) (starts.queues c H 0 choices at) in
       record {
@@ -351,17 +353,17 @@ module _ (newest : CallsKeepNewest) (ticking : CallsKeepTheClock) (due : QueuedD
       in_time : (count m d at time : ℕ) → PausesWithin count m d → d ≤ at + time → at ≤ m → 15 * count < time + 15
       in_time count m d at time (inl none) due on = omega (arith, none)
       in_time count m d at time (inr some) due on = omega (arith, some, due, on)
-  asks_within choices X R H L m k (not_queued at reply response told) a s l on_time = record { waits = omega arith; starts = omega arith }
-  asks_within choices X R H L m k (enqueue_spent at) a s l on_time = absurd a
+  asks_within choices X R H L m k (not_queued at reply response told) n a s l on_time = record { waits = omega arith; starts = omega arith }
+  asks_within choices X R H L m k (enqueue_spent at) n a s l on_time = absurd a
 
   session_within : ((body : List ℕ) (r s : Result (List (List Cap)) CapsFault) → BodyGives body r → BodyGives body s → r ≡ s) →
-      (body : List ℕ) (choices : List (List Cap)) (X : List Step) (R : Response) (H L : List Entry) (m k : ℕ) → NewSession body X R → BodyGives body (Ok choices) →
+      (body : List ℕ) (choices : List (List Cap)) (X : List Step) (R : Response) (H L : List Entry) (m k : ℕ) → NewSession body X R → R ≢ left → BodyGives body (Ok choices) →
       Answered c H X L → Still m X k → legal c L ≡ true → clock H ≤ m → IsBounded c H choices X
-  session_within bodies body choices X R H L m k (no_choices fault g) h a s l on_time = record { waits = omega arith; starts = omega arith }
-  session_within bodies body choices X R H L m k (asks others g w) h a s l on_time =
+  session_within bodies body choices X R H L m k (no_choices fault g) n h a s l on_time = record { waits = omega arith; starts = omega arith }
+  session_within bodies body choices X R H L m k (asks others g w) n h a s l on_time =
       let e = bodies body (Ok others) (Ok choices) g h in
       let same : others ≡ choices = cc in
-      asks_within choices X R H L m k (subst (λ (i : List (List Cap)). Asks i X R) same w) a s l on_time
+      asks_within choices X R H L m k (subst (λ (i : List (List Cap)). Asks i X R) same w) n a s l on_time
 
   -- ---- the clock of a conversation
 
@@ -380,7 +382,7 @@ module _ (newest : CallsKeepNewest) (ticking : CallsKeepTheClock) (due : QueuedD
   clock_all (Paused ms ∷ steps) H L m k a s far h = clock_all steps H L (later_by m ms) k a s (later_far m ms) (on_pause (clock H) m ms far h)
 
   pub bounded : ((body : List ℕ) (r s : Result (List (List Cap)) CapsFault) → BodyGives body r → BodyGives body s → r ≡ s) → SessionsAreBoundedAt c
-  bounded bodies nodes ended bytes steps written p before own after f response choices e routed gives script =
+  bounded bodies nodes ended bytes steps written p before own after f response choices e routed gives script n =
       let start = (first_crew c nodes).history in
       let answered = subst (λ (x : List Step). Answered c start x p.history) e p.answered in
       let still = subst (λ (x : List Step). Still 0 x p.moment) e p.still in
@@ -391,5 +393,5 @@ module _ (newest : CallsKeepNewest) (ticking : CallsKeepTheClock) (due : QueuedD
         b.middle,
         b.first,
         session_within bodies (body_of f) choices own response b.middle d.middle b.at d.at
-            (new_one f own response routed script) gives d.first d.still (legal_before c d.middle p.history after d.rest p.is_legal) on_time,
+            (new_one f own response routed script) n gives d.first d.still (legal_before c d.middle p.history after d.rest p.is_legal) on_time,
       )

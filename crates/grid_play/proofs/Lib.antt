@@ -10,3 +10,4 @@ mod TalkOneLemmas
 mod BoundLemmas
 mod OneTalkLemmas
 mod LongerLemmas
+mod ServedTalkLemmas

@@ -23,12 +23,9 @@ use Rattle.loop_node.specs.Sessions.{Node}
 use Rattle.play_words.specs.declared.play.PlayNode.{PlayNode}
 use Rattle.grid_play.specs.Crew.{Crew, first_crew, gathered}
 use Rattle.grid_play.specs.Ran.{ServedSo}
+use Rattle.grid_play.specs.ServedTalks.{reached_give}
 
--- the rule of nodes behind their link
-abbrev pub reached_give : LoopNodes → List ℕ → Ask → Came → LoopNodes → Type 0
-reached_give old address ask came new = NodesGive (nodes_reached old) address ask came (nodes_reached new)
-
-exchanges_reached : (n k : LoopNodes) (steps : List Step) → Exchanges reached_give n steps k → Exchanges NodesGive (nodes_reached n) steps (nodes_reached k)
+pub exchanges_reached : (n k : LoopNodes) (steps : List Step) → Exchanges reached_give n steps k → Exchanges NodesGive (nodes_reached n) steps (nodes_reached k)
 unfolding Exchanges
 exchanges_reached n k [] e = ap nodes_reached e
 exchanges_reached n k (Called call at reply ∷ steps) e = exchanges_reached n k steps e

@@ -1,5 +1,5 @@
--- From one state a request has one script, where no step was out of memory.
-use Rattle.std.proofs.Common.{◌≡◌, ℕ, List, [], ◌∷◌, ◌++◌, refl, sym, ◌∙◌, ap, subst, arith}
+-- From one state a request has one script, where no step was out of memory and its client did not leave.
+use Rattle.std.proofs.Common.{◌≡◌, ◌≢◌, ℕ, List, [], ◌∷◌, ◌++◌, refl, sym, ◌∙◌, ap, subst, arith}
 use Rattle.std.proofs.lemmas.Bool.{false≢true}
 use Rattle.std.proofs.lemmas.Fmt.{decimal_injective}
 use Rattle.std.specs.Prelude.{Option, None, Some, Result, Ok, Err}
@@ -21,11 +21,11 @@ use Rattle.node_client.specs.Start.{Start}
 use Rattle.node_client.specs.Steps.{Step, Called, Spent, Exchanged, Paused}
 use Rattle.conn_script.specs.DeleteSession.{quit_response, AfterQuit, freed, freed_spent, AfterEnd, asked, AfterLookup, ended, not_ended, end_spent, AsksWhere, found_at, not_found, lookup_spent, DeleteSession, no_name, named}
 use Rattle.conn_script.specs.Messages.{beat_refusal, caps_refusal, enqueue_refusal, outcome_response, reg_refusal, register_response, node_response, status_response, queue_response, clear_response}
-use Rattle.conn_script.specs.NewSession.{poll_pause, SpentStart, spent_at, Rounds, not_yet, poll_lacks, yours, start_spent, settled, poll_spent, Asks, queued, not_queued, enqueue_spent, NewSession, no_choices, asks}
+use Rattle.conn_script.specs.NewSession.{poll_pause, SpentStart, spent_at, Rounds, not_yet, poll_lacks, left_waiting, left_lacking, yours, start_spent, settled, poll_spent, Asks, queued, not_queued, enqueue_spent, NewSession, no_choices, asks}
 use Rattle.conn_script.specs.OneCall.{OneCall, answered, call_spent, NodeCall, no_number, asks_node, NamesNode, Beats, no_path, no_beat, beats_node, Registers, no_registration, asks_hub}
 use Rattle.conn_script.specs.Relay as relay
 use Rattle.conn_script.specs.Relay.{AfterTouch, AfterFound, FindsNode, Relay, relay_response, relayed}
-use Rattle.conn_script.specs.Responses.{Response}
+use Rattle.conn_script.specs.Responses.{Response, left}
 use Rattle.conn_script.specs.Script.{ByRoute, Script, body_of, route}
 use Rattle.grid_play.specs.Readings.{Readings}
 use Rattle.grid_play.proofs.ExactLemmas.{State, Exactly, called, done, exchanged, paused, One, one_none, one_call, one_exchange, one_pause, one_append, one_as, reply_one, never_silent, never_spent}
@@ -54,41 +54,45 @@ module _ (laws : Readings) (c : HubConfig) (y z : State) where
 
   -- ---- a new session
 
-  rounds_one : (Y Z : List Step) (t : Ticket) (X X' : List Step) (R R' : Response) (s : State) → Rounds t X R → Rounds t X' R' →
-      Exactly c s (X ++ Y) y → Exactly c s (X' ++ Z) z → One laws c y z Y Z X X' R R'
-  rounds_one Y Z t X X' R R' s (poll_lacks {steps = V} at w) x p q = absurd (never_silent laws c y z y s (Call.poll t) at ((Paused poll_pause ∷ V) ++ Y) p)
-  rounds_one Y Z t X X' R R' s (poll_spent at) x p q = absurd (never_spent laws c y z y s (Call.poll t) at Y p)
-  rounds_one Y Z t X X' R R' s x (poll_lacks {steps = W} on w) p q = absurd (never_silent laws c y z z s (Call.poll t) on ((Paused poll_pause ∷ W) ++ Z) q)
-  rounds_one Y Z t X X' R R' s x (poll_spent on) p q = absurd (never_spent laws c y z z s (Call.poll t) on Z q)
-  rounds_one Y Z t X X' R R' s (start_spent {own = V} at u r spent) x p q = absurd (never_spent_start y s Y t u r at V spent p)
-  rounds_one Y Z t X X' R R' s x (start_spent {own = W} on u r spent) p q = absurd (never_spent_start z s Z t u r on W spent q)
-  rounds_one Y Z t X X' R R' s (not_yet {steps = V} at u w) (not_yet {steps = W} on v x) p q =
+  rounds_one : (Y Z : List Step) (t : Ticket) (X X' : List Step) (R R' : Response) (s : State) → Rounds t X R → Rounds t X' R' → R ≢ left →
+      R' ≢ left → Exactly c s (X ++ Y) y → Exactly c s (X' ++ Z) z → One laws c y z Y Z X X' R R'
+  rounds_one Y Z t X X' R R' s (left_waiting at u w) x stays stays_too p q = absurd (stays refl)
+  rounds_one Y Z t X X' R R' s (left_lacking at w) x stays stays_too p q = absurd (stays refl)
+  rounds_one Y Z t X X' R R' s x (left_waiting on u w) stays stays_too p q = absurd (stays_too refl)
+  rounds_one Y Z t X X' R R' s x (left_lacking on w) stays stays_too p q = absurd (stays_too refl)
+  rounds_one Y Z t X X' R R' s (poll_lacks {steps = V} at w) x stays stays_too p q = absurd (never_silent laws c y z y s (Call.poll t) at ((Paused poll_pause ∷ V) ++ Y) p)
+  rounds_one Y Z t X X' R R' s (poll_spent at) x stays stays_too p q = absurd (never_spent laws c y z y s (Call.poll t) at Y p)
+  rounds_one Y Z t X X' R R' s x (poll_lacks {steps = W} on w) stays stays_too p q = absurd (never_silent laws c y z z s (Call.poll t) on ((Paused poll_pause ∷ W) ++ Z) q)
+  rounds_one Y Z t X X' R R' s x (poll_spent on) stays stays_too p q = absurd (never_spent laws c y z z s (Call.poll t) on Z q)
+  rounds_one Y Z t X X' R R' s (start_spent {own = V} at u r spent) x stays stays_too p q = absurd (never_spent_start y s Y t u r at V spent p)
+  rounds_one Y Z t X X' R R' s x (start_spent {own = W} on u r spent) stays stays_too p q = absurd (never_spent_start z s Z t u r on W spent q)
+  rounds_one Y Z t X X' R R' s (not_yet {steps = V} at u w) (not_yet {steps = W} on v x) stays stays_too p q =
       let e = reply_one laws c y z s (Call.poll t) at on (Reply.not_yet u) (Reply.not_yet v) ((Paused poll_pause ∷ V) ++ Y) ((Paused poll_pause ∷ W) ++ Z) p q in
       let same : u ≡ v = cc in
       one_call laws c y z Y Z s (Call.poll t) at on (Some (Reply.not_yet u)) (Some (Reply.not_yet v)) (Paused poll_pause ∷ V) (Paused poll_pause ∷ W) R R' p q
       (λ a b. one_pause laws c y z Y Z (called c s (Call.poll t)) poll_pause V W R R' a b
-      (λ d f. rounds_one Y Z u V W R R' (paused poll_pause (called c s (Call.poll t))) w (subst (λ (k : Ticket). Rounds k W R') (sym same) x) d f))
-  rounds_one Y Z t X X' R R' s (not_yet {steps = V} at u w) (yours {own = D} {steps = W} on v r st x) p q =
+      (λ d f. rounds_one Y Z u V W R R' (paused poll_pause (called c s (Call.poll t))) w (subst (λ (k : Ticket). Rounds k W R') (sym same) x) stays stays_too d f))
+  rounds_one Y Z t X X' R R' s (not_yet {steps = V} at u w) (yours {own = D} {steps = W} on v r st x) stays stays_too p q =
       let e = reply_one laws c y z s (Call.poll t) at on (Reply.not_yet u) (Reply.yours v r) ((Paused poll_pause ∷ V) ++ Y) ((D ++ W) ++ Z) p q in cc
-  rounds_one Y Z t X X' R R' s (not_yet {steps = V} at u w) (settled on o) p q =
+  rounds_one Y Z t X X' R R' s (not_yet {steps = V} at u w) (settled on o) stays stays_too p q =
       let e = reply_one laws c y z s (Call.poll t) at on (Reply.not_yet u) (Reply.settled o) ((Paused poll_pause ∷ V) ++ Y) Z p q in cc
-  rounds_one Y Z t X X' R R' s (yours {own = D} {steps = V} at u r st w) (not_yet {steps = W} on v x) p q =
+  rounds_one Y Z t X X' R R' s (yours {own = D} {steps = V} at u r st w) (not_yet {steps = W} on v x) stays stays_too p q =
       let e = reply_one laws c y z s (Call.poll t) at on (Reply.yours u r) (Reply.not_yet v) ((D ++ V) ++ Y) ((Paused poll_pause ∷ W) ++ Z) p q in cc
-  rounds_one Y Z t X X' R R' s (yours {own = D} {steps = V} at u r st w) (yours {own = F} {steps = W} on v o tr x) p q =
+  rounds_one Y Z t X X' R R' s (yours {own = D} {steps = V} at u r st w) (yours {own = F} {steps = W} on v o tr x) stays stays_too p q =
       let e = reply_one laws c y z s (Call.poll t) at on (Reply.yours u r) (Reply.yours v o) ((D ++ V) ++ Y) ((F ++ W) ++ Z) p q in
       let same : u ≡ v = cc in
       let held : r ≡ o = cc in
       one_call laws c y z Y Z s (Call.poll t) at on (Some (Reply.yours u r)) (Some (Reply.yours v o)) (D ++ V) (F ++ W) R R' p q
       (λ a b. one_append laws c y z Y Z (called c s (Call.poll t)) D F V W done done R R' a b
       (λ d f. start_one laws c y z (V ++ Y) (W ++ Z) r D F (called c s (Call.poll t)) st (subst (λ (k : Reservation). Start k F) (sym held) tr) d f)
-      (λ _ place d f. rounds_one Y Z u V W R R' place w (subst (λ (k : Ticket). Rounds k W R') (sym same) x) d f))
-  rounds_one Y Z t X X' R R' s (yours {own = D} {steps = V} at u r st w) (settled on o) p q =
+      (λ _ place d f. rounds_one Y Z u V W R R' place w (subst (λ (k : Ticket). Rounds k W R') (sym same) x) stays stays_too d f))
+  rounds_one Y Z t X X' R R' s (yours {own = D} {steps = V} at u r st w) (settled on o) stays stays_too p q =
       let e = reply_one laws c y z s (Call.poll t) at on (Reply.yours u r) (Reply.settled o) ((D ++ V) ++ Y) Z p q in cc
-  rounds_one Y Z t X X' R R' s (settled at o) (not_yet {steps = W} on v x) p q =
+  rounds_one Y Z t X X' R R' s (settled at o) (not_yet {steps = W} on v x) stays stays_too p q =
       let e = reply_one laws c y z s (Call.poll t) at on (Reply.settled o) (Reply.not_yet v) Y ((Paused poll_pause ∷ W) ++ Z) p q in cc
-  rounds_one Y Z t X X' R R' s (settled at o) (yours {own = F} {steps = W} on v r st x) p q =
+  rounds_one Y Z t X X' R R' s (settled at o) (yours {own = F} {steps = W} on v r st x) stays stays_too p q =
       let e = reply_one laws c y z s (Call.poll t) at on (Reply.settled o) (Reply.yours v r) Y ((F ++ W) ++ Z) p q in cc
-  rounds_one Y Z t X X' R R' s (settled at o) (settled on n) p q =
+  rounds_one Y Z t X X' R R' s (settled at o) (settled on n) stays stays_too p q =
       let e = reply_one laws c y z s (Call.poll t) at on (Reply.settled o) (Reply.settled n) Y Z p q in
       let same : o ≡ n = cc in
       one_call laws c y z Y Z s (Call.poll t) at on (Some (Reply.settled o)) (Some (Reply.settled n)) [] [] R R' p q
@@ -98,36 +102,36 @@ module _ (laws : Readings) (c : HubConfig) (y z : State) where
   queued_not_refused : (t : Ticket) (reply : Reply) (response : Response) → Reply.queued t ≡ reply → enqueue_refusal reply ≡ Some response → ⊥
   queued_not_refused t reply response e d = let none : None ≡ Some response = ap enqueue_refusal e ∙ d in cc
 
-  asks_one : (Y Z : List Step) (choices : List (List Cap)) (X X' : List Step) (R R' : Response) (s : State) → Asks choices X R → Asks choices X' R' →
-      Exactly c s (X ++ Y) y → Exactly c s (X' ++ Z) z → One laws c y z Y Z X X' R R'
-  asks_one Y Z choices X X' R R' s (enqueue_spent at) x p q = absurd (never_spent laws c y z y s (Call.enqueue choices) at Y p)
-  asks_one Y Z choices X X' R R' s x (enqueue_spent on) p q = absurd (never_spent laws c y z z s (Call.enqueue choices) on Z q)
-  asks_one Y Z choices X X' R R' s (queued {steps = V} at t w) (queued {steps = W} on u x) p q =
+  asks_one : (Y Z : List Step) (choices : List (List Cap)) (X X' : List Step) (R R' : Response) (s : State) → Asks choices X R → Asks choices X' R' → R ≢ left →
+      R' ≢ left → Exactly c s (X ++ Y) y → Exactly c s (X' ++ Z) z → One laws c y z Y Z X X' R R'
+  asks_one Y Z choices X X' R R' s (enqueue_spent at) x stays stays_too p q = absurd (never_spent laws c y z y s (Call.enqueue choices) at Y p)
+  asks_one Y Z choices X X' R R' s x (enqueue_spent on) stays stays_too p q = absurd (never_spent laws c y z z s (Call.enqueue choices) on Z q)
+  asks_one Y Z choices X X' R R' s (queued {steps = V} at t w) (queued {steps = W} on u x) stays stays_too p q =
       let e = reply_one laws c y z s (Call.enqueue choices) at on (Reply.queued t) (Reply.queued u) (V ++ Y) (W ++ Z) p q in
       let same : t ≡ u = cc in
       one_call laws c y z Y Z s (Call.enqueue choices) at on (Some (Reply.queued t)) (Some (Reply.queued u)) V W R R' p q
-      (λ a b. rounds_one Y Z t V W R R' (called c s (Call.enqueue choices)) w (subst (λ (k : Ticket). Rounds k W R') (sym same) x) a b)
-  asks_one Y Z choices X X' R R' s (queued {steps = V} at t w) (not_queued on reply response told) p q =
+      (λ a b. rounds_one Y Z t V W R R' (called c s (Call.enqueue choices)) w (subst (λ (k : Ticket). Rounds k W R') (sym same) x) stays stays_too a b)
+  asks_one Y Z choices X X' R R' s (queued {steps = V} at t w) (not_queued on reply response told) stays stays_too p q =
       absurd (queued_not_refused t reply R' (reply_one laws c y z s (Call.enqueue choices) at on (Reply.queued t) reply (V ++ Y) Z p q) told)
-  asks_one Y Z choices X X' R R' s (not_queued at reply response told) (queued {steps = W} on t w) p q =
+  asks_one Y Z choices X X' R R' s (not_queued at reply response told) (queued {steps = W} on t w) stays stays_too p q =
       absurd (queued_not_refused t reply R (sym (reply_one laws c y z s (Call.enqueue choices) at on reply (Reply.queued t) Y (W ++ Z) p q)) told)
-  asks_one Y Z choices X X' R R' s (not_queued at reply response told) (not_queued on other answer told_too) p q =
+  asks_one Y Z choices X X' R R' s (not_queued at reply response told) (not_queued on other answer told_too) stays stays_too p q =
       let e = reply_one laws c y z s (Call.enqueue choices) at on reply other Y Z p q in
       one_call laws c y z Y Z s (Call.enqueue choices) at on (Some reply) (Some other) [] [] R R' p q
       (λ a b. one_none laws c y z Y Z (called c s (Call.enqueue choices)) R R' (some_same R R' (sym told ∙ ap enqueue_refusal e ∙ told_too)) a b)
 
-  new_session_one : (Y Z : List Step) (body : List ℕ) (X X' : List Step) (R R' : Response) (s : State) → NewSession body X R → NewSession body X' R' →
-      Exactly c s (X ++ Y) y → Exactly c s (X' ++ Z) z → One laws c y z Y Z X X' R R'
-  new_session_one Y Z body X X' R R' s (no_choices fault g) (no_choices other h) p q =
+  new_session_one : (Y Z : List Step) (body : List ℕ) (X X' : List Step) (R R' : Response) (s : State) → NewSession body X R → NewSession body X' R' → R ≢ left →
+      R' ≢ left → Exactly c s (X ++ Y) y → Exactly c s (X' ++ Z) z → One laws c y z Y Z X X' R R'
+  new_session_one Y Z body X X' R R' s (no_choices fault g) (no_choices other h) stays stays_too p q =
       let e = laws.bodies body (Err fault) (Err other) g h in
       let same : fault ≡ other = cc in
       one_none laws c y z Y Z s R R' (ap caps_refusal same) p q
-  new_session_one Y Z body X X' R R' s (no_choices fault g) (asks choices h x) p q = let e = laws.bodies body (Err fault) (Ok choices) g h in cc
-  new_session_one Y Z body X X' R R' s (asks choices g w) (no_choices fault h) p q = let e = laws.bodies body (Ok choices) (Err fault) g h in cc
-  new_session_one Y Z body X X' R R' s (asks choices g w) (asks others h x) p q =
+  new_session_one Y Z body X X' R R' s (no_choices fault g) (asks choices h x) stays stays_too p q = let e = laws.bodies body (Err fault) (Ok choices) g h in cc
+  new_session_one Y Z body X X' R R' s (asks choices g w) (no_choices fault h) stays stays_too p q = let e = laws.bodies body (Ok choices) (Err fault) g h in cc
+  new_session_one Y Z body X X' R R' s (asks choices g w) (asks others h x) stays stays_too p q =
       let e = laws.bodies body (Ok choices) (Ok others) g h in
       let same : choices ≡ others = cc in
-      asks_one Y Z choices X X' R R' s w (subst (λ (k : List (List Cap)). Asks k X' R') (sym same) x) p q
+      asks_one Y Z choices X X' R R' s w (subst (λ (k : List (List Cap)). Asks k X' R') (sym same) x) stays stays_too p q
 
   -- ---- requests that one call answers
 
@@ -303,23 +307,23 @@ module _ (laws : Readings) (c : HubConfig) (y z : State) where
   at_once Y Z X X' R R' D s w x p q =
       one_as laws c y z Y Z s X X' [] [] R R' w.0 x.0 p q (λ a b. one_none laws c y z Y Z s R R' (w.1 ∙ sym x.1) a b)
 
-  by_route_one : (Y Z : List Step) (o : Result Route RouteFault) (f : Request) (X X' : List Step) (R R' : Response) (s : State) → ByRoute o f X R → ByRoute o f X' R' →
-      Exactly c s (X ++ Y) y → Exactly c s (X' ++ Z) z → One laws c y z Y Z X X' R R'
-  by_route_one Y Z (Err misrouted.UnknownCommand) f X X' R R' s w x p q = at_once Y Z X X' R R' _ s w x p q
-  by_route_one Y Z (Err misrouted.UnknownMethod) f X X' R R' s w x p q = at_once Y Z X X' R R' _ s w x p q
-  by_route_one Y Z (Err misrouted.Memory) f X X' R R' s w x p q = absurd w
-  by_route_one Y Z (Ok routes.new_session) f X X' R R' s w x p q = new_session_one Y Z (body_of f) X X' R R' s w x p q
-  by_route_one Y Z (Ok (routes.delete_session id)) f X X' R R' s w x p q = delete_one Y Z id X X' R R' s w x p q
-  by_route_one Y Z (Ok (routes.relay id target)) f X X' R R' s w x p q = relay_one Y Z (relayed f target) id X X' R R' s w x p q
-  by_route_one Y Z (Ok routes.status) f X X' R R' s w x p q = one_call_one Y Z Call.view status_response X X' R R' s w x p q
-  by_route_one Y Z (Ok routes.queue) f X X' R R' s w x p q = one_call_one Y Z Call.view queue_response X X' R R' s w x p q
-  by_route_one Y Z (Ok routes.clear_queue) f X X' R R' s w x p q = one_call_one Y Z Call.clear clear_response X X' R R' s w x p q
-  by_route_one Y Z (Ok routes.register) f X X' R R' s w x p q = registers_one Y Z (body_of f) X X' R R' s w x p q
-  by_route_one Y Z (Ok (routes.remove id)) f X X' R R' s w x p q = node_call_one Y Z Call.remove id X X' R R' s w x p q
-  by_route_one Y Z (Ok (routes.drain id)) f X X' R R' s w x p q = node_call_one Y Z Call.drain id X X' R R' s w x p q
-  by_route_one Y Z (Ok (routes.beat id)) f X X' R R' s w x p q = beats_one Y Z id (body_of f) X X' R R' s w x p q
+  by_route_one : (Y Z : List Step) (o : Result Route RouteFault) (f : Request) (X X' : List Step) (R R' : Response) (s : State) → ByRoute o f X R → ByRoute o f X' R' → R ≢ left →
+      R' ≢ left → Exactly c s (X ++ Y) y → Exactly c s (X' ++ Z) z → One laws c y z Y Z X X' R R'
+  by_route_one Y Z (Err misrouted.UnknownCommand) f X X' R R' s w x stays stays_too p q = at_once Y Z X X' R R' _ s w x p q
+  by_route_one Y Z (Err misrouted.UnknownMethod) f X X' R R' s w x stays stays_too p q = at_once Y Z X X' R R' _ s w x p q
+  by_route_one Y Z (Err misrouted.Memory) f X X' R R' s w x stays stays_too p q = absurd w
+  by_route_one Y Z (Ok routes.new_session) f X X' R R' s w x stays stays_too p q = new_session_one Y Z (body_of f) X X' R R' s w x stays stays_too p q
+  by_route_one Y Z (Ok (routes.delete_session id)) f X X' R R' s w x stays stays_too p q = delete_one Y Z id X X' R R' s w x p q
+  by_route_one Y Z (Ok (routes.relay id target)) f X X' R R' s w x stays stays_too p q = relay_one Y Z (relayed f target) id X X' R R' s w x p q
+  by_route_one Y Z (Ok routes.status) f X X' R R' s w x stays stays_too p q = one_call_one Y Z Call.view status_response X X' R R' s w x p q
+  by_route_one Y Z (Ok routes.queue) f X X' R R' s w x stays stays_too p q = one_call_one Y Z Call.view queue_response X X' R R' s w x p q
+  by_route_one Y Z (Ok routes.clear_queue) f X X' R R' s w x stays stays_too p q = one_call_one Y Z Call.clear clear_response X X' R R' s w x p q
+  by_route_one Y Z (Ok routes.register) f X X' R R' s w x stays stays_too p q = registers_one Y Z (body_of f) X X' R R' s w x p q
+  by_route_one Y Z (Ok (routes.remove id)) f X X' R R' s w x stays stays_too p q = node_call_one Y Z Call.remove id X X' R R' s w x p q
+  by_route_one Y Z (Ok (routes.drain id)) f X X' R R' s w x stays stays_too p q = node_call_one Y Z Call.drain id X X' R R' s w x p q
+  by_route_one Y Z (Ok (routes.beat id)) f X X' R R' s w x stays stays_too p q = beats_one Y Z id (body_of f) X X' R R' s w x p q
 
-  pub script_one : (Y Z : List Step) (f : Request) (X X' : List Step) (R R' : Response) (s : State) → Script f X R → Script f X' R' →
-      Exactly c s (X ++ Y) y → Exactly c s (X' ++ Z) z → One laws c y z Y Z X X' R R'
+  pub script_one : (Y Z : List Step) (f : Request) (X X' : List Step) (R R' : Response) (s : State) → Script f X R → Script f X' R' → R ≢ left →
+      R' ≢ left → Exactly c s (X ++ Y) y → Exactly c s (X' ++ Z) z → One laws c y z Y Z X X' R R'
   unfolding Script
-  script_one Y Z f X X' R R' s w x p q = by_route_one Y Z (route f) f X X' R R' s w x p q
+  script_one Y Z f X X' R R' s w x stays stays_too p q = by_route_one Y Z (route f) f X X' R R' s w x stays stays_too p q

@@ -1,5 +1,5 @@
 -- Where no step was out of memory, there is one conversation of the nodes and the bytes.
-use Rattle.std.proofs.Common.{◌≡◌, ℕ, ◌<◌, Bool, true, false, List, [], ◌∷◌, ◌++◌, length, refl, sym, ◌∙◌, ap, subst, arith, append-nil}
+use Rattle.std.proofs.Common.{◌≡◌, ◌≢◌, ℕ, ◌<◌, Bool, true, false, List, [], ◌∷◌, ◌++◌, length, refl, sym, ◌∙◌, ap, subst, arith, append-nil}
 use Rattle.std.proofs.lemmas.Bool.{false≢true}
 use Rattle.std.specs.Prelude.{◌≤◌, Some, Ok, nat_le}
 use Rattle.http_frames.specs.declared.frames.TheConstants.{LIMITS}
@@ -8,7 +8,7 @@ use Rattle.http_frames.specs.Frames.{Request, Frames, closes, expects}
 use Rattle.grid_types.specs.declared.config.HubConfig.{HubConfig}
 use Rattle.node_client.specs.Steps.{Step}
 use Rattle.conn_script.specs.Messages.{refusal}
-use Rattle.conn_script.specs.Responses.{Response, bytes_of, continue_text}
+use Rattle.conn_script.specs.Responses.{Response, left, bytes_of, continue_text, is_last}
 use Rattle.conn_script.specs.declared.wants.End.{End}
 use Rattle.conn_script.specs.declared.wants.End.TheVariants as ends
 use Rattle.conn_script.specs.declared.wants.Served.{Served}
@@ -25,14 +25,18 @@ use Rattle.grid_play.proofs.ExactLemmas.{State, state, Exactly, done, One, one_n
 use Rattle.grid_play.proofs.StartOneLemmas.{begins_one}
 use Rattle.grid_play.proofs.ScriptOneLemmas.{script_one, spent_behind}
 
+-- a response behind which more is answered is one
+has_answer : (response : Response) → is_last response ≡ false → response ≢ left
+has_answer response more e = false≢true (sym more ∙ ap is_last e)
+
 module _ (laws : Readings) (c : HubConfig) (own : List ℕ) (y z : State) where
-  answers_one : (Y Z : List Step) (f : Request) (X X' : List Step) (R R' : Response) (s : State) → Answers (Some own) f X R → Answers (Some own) f X' R' →
-      Exactly c s (X ++ Y) y → Exactly c s (X' ++ Z) z → One laws c y z Y Z X X' R R'
-  answers_one Y Z f X X' R R' s v w p q =
+  answers_one : (Y Z : List Step) (f : Request) (X X' : List Step) (R R' : Response) (s : State) → Answers (Some own) f X R → Answers (Some own) f X' R' → R ≢ left →
+      R' ≢ left → Exactly c s (X ++ Y) y → Exactly c s (X' ++ Z) z → One laws c y z Y Z X X' R R'
+  answers_one Y Z f X X' R R' s v w n m p q =
       one_as laws c y z Y Z s X X' (v.begun ++ v.script_steps) (w.begun ++ w.script_steps) R R' v.steps_are w.steps_are p q
       (λ a b. one_append laws c y z Y Z s v.begun w.begun v.script_steps w.script_steps done done R R' a b
       (λ d e. begins_one laws c y z (v.script_steps ++ Y) (w.script_steps ++ Z) own v.begun w.begun s v.begins w.begins d e)
-      (λ _ place d e. script_one laws c y z Y Z f v.script_steps w.script_steps R R' place v.script w.script d e))
+      (λ _ place d e. script_one laws c y z Y Z f v.script_steps w.script_steps R R' place v.script w.script n m d e))
 
   -- requests one after the other
   pub scripts_one : (Y Z : List Step) (fs : List Request) (X X' : List Step) (W W' : List ℕ) (s : State) → Scripts (Some own) fs X W false →
@@ -40,7 +44,7 @@ module _ (laws : Readings) (c : HubConfig) (own : List ℕ) (y z : State) where
   scripts_one Y Z [] X X' W W' s none none p q = one_none laws c y z Y Z s [] [] refl p q
   scripts_one Y Z (f ∷ fs) X X' W W' s (next _ _ V more R A _ last answers rest) (next _ _ V' more' R' A' _ last' answers' rest') p q =
       one_append laws c y z Y Z s V V' more more' R R' (answer_text f R ++ A) (answer_text f R' ++ A') p q
-      (λ a b. answers_one (more ++ Y) (more' ++ Z) f V V' R R' s answers answers' a b)
+      (λ a b. answers_one (more ++ Y) (more' ++ Z) f V V' R R' s answers answers' (has_answer R last) (has_answer R' last') a b)
       (λ e place a b. one_answer laws c y z Y Z more more' A A' (answer_text f R ++ A) (answer_text f R' ++ A')
       (scripts_one Y Z fs more more' A A' place rest rest' a b) (λ d. λ i. answer_text f (e i) ++ (d i)))
 

@@ -1,5 +1,5 @@
 -- How long a New Session waits, and how often it is started.
-use Rattle.std.specs.Prelude.{◌≡◌, ℕ, ◌+◌, ◌*◌, ◌<◌, ◌≤◌, Bool, true, false, List, [], ◌∷◌, ◌++◌, Option, Some, Result, Ok}
+use Rattle.std.specs.Prelude.{◌≡◌, ◌≢◌, ℕ, ◌+◌, ◌*◌, ◌<◌, ◌≤◌, Bool, true, false, List, [], ◌∷◌, ◌++◌, Option, Some, Result, Ok}
 use Rattle.http_frames.specs.Frames.{Request}
 use Rattle.grid_types.specs.declared.capabilities.Cap.{Cap}
 use Rattle.grid_types.specs.declared.config.HubConfig.{HubConfig}
@@ -11,7 +11,7 @@ use Rattle.caps_merge.specs.Merging.{BodyGives}
 use Rattle.router_core.specs.Routes.{new_session}
 use Rattle.node_client.specs.Steps.{Step, Called, Spent, Exchanged, Paused}
 use Rattle.conn_script.specs.NewSession.{poll_pause}
-use Rattle.conn_script.specs.Responses.{Response}
+use Rattle.conn_script.specs.Responses.{Response, left}
 use Rattle.conn_script.specs.Script.{Script, body_of, route}
 use Rattle.conn_script.specs.declared.wants.ConnFault.{ConnFault}
 use Rattle.conn_script.specs.declared.wants.Served.{Served}
@@ -51,12 +51,13 @@ pub record IsBounded (c : HubConfig) (H : List Entry) (choices : List (List Cap)
   pub waits : poll_pause * pauses_in steps < queue_time c choices + poll_pause
   pub starts : starts_in steps ≤ registered_count H
 
--- so is each New Session of a conversation, from the history that led to it
+-- So is each New Session of a conversation whose client did not leave, from the history that led to it; one that left waits until the
+-- start that is under way for it is over.
 abbrev pub SessionsAreBoundedAt : HubConfig → Type 0
 SessionsAreBoundedAt c =
     (nodes : List PlayNode) (ended : Result Served ConnFault) (bytes : List ℕ) (steps : List Step) (written : List ℕ) → Played c nodes ended bytes steps written →
     (before own after : List Step) (f : Request) (response : Response) (choices : List (List Cap)) → steps ≡ before ++ (own ++ after) →
-    route f ≡ Ok new_session → BodyGives (body_of f) (Ok choices) → Script f own response →
+    route f ≡ Ok new_session → BodyGives (body_of f) (Ok choices) → Script f own response → response ≢ left →
     (H : List Entry) × Answered c (first_crew c nodes).history before H × IsBounded c H choices own
 
 abbrev pub SessionsAreBounded : Type 0

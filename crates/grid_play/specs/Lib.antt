@@ -6,3 +6,4 @@ pub mod Readings
 pub mod OneConversation
 pub mod Bounds
 pub mod Talks
+pub mod ServedTalks

@@ -1,6 +1,7 @@
 -- One connection from anywhere: by a hub, nodes in memory and a clock that were left so by what came before.
 use Rattle.std.specs.Prelude.{◌≡◌, ◌≢◌, ℕ, ◌+◌, ◌<◌, ◌≤◌, ◌^◌, false, List, [], ◌∷◌, ◌++◌, length, Ok, Result, Some}
 use Rattle.grid_types.specs.declared.config.HubConfig.{HubConfig}
+use Rattle.grid_types.specs.Config.{IsValid}
 use Rattle.grid_types.specs.declared.entry.Entry.{Entry}
 use Rattle.node_client.specs.Runs.{Exchanges, Still}
 use Rattle.node_client.specs.Steps.{Step}
@@ -77,3 +78,7 @@ SaidNodesFit = (word slots : List ℕ) (node : PlayNode) → SaysNode word slots
 -- so are those of a play, and they are few
 abbrev pub SaidCrewsFit : Type 0
 SaidCrewsFit = (words : List (List ℕ)) (c : HubConfig) (nodes : List PlayNode) → Plays words c nodes → AllFit nodes × (length nodes < 2 ^ 16)
+
+-- and the hub that they say can be made
+abbrev pub SaidHubsAreValid : Type 0
+SaidHubsAreValid = (words : List (List ℕ)) (c : HubConfig) (nodes : List PlayNode) → Plays words c nodes → IsValid c

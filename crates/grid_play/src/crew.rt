@@ -68,7 +68,7 @@ fn address_of(alloc: Global, i: NodeNo) -> Result<NodeAddress, NoMemory>
 }
 
 /// What node i says of itself.
-fn registration_of(alloc: Global, i: NodeNo, node: &PlayNode) -> Result<Registration, NoMemory>
+pub fn registration_of(alloc: Global, i: NodeNo, node: &PlayNode) -> Result<Registration, NoMemory>
     requires least { 1 ≤ node.now.slots }
     requires most { node.now.slots ≤ MOST_SLOTS }
     ensures is { IfOk result (λ r. r ≡ registration_of i node.now) }

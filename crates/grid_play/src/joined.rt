@@ -5,9 +5,9 @@ use grid_outside::{Failed, Link, Sink, Source};
 
 /// Reads from the one and writes to the other, both of which stay where they are.
 #[derive(Drop)]
-pub(crate) struct Joined<'a, S: Source, K: Sink> {
-    pub(crate) source: &'a mut S,
-    pub(crate) sink: &'a mut K,
+pub struct Joined<'a, S: Source, K: Sink> {
+    pub source: &'a mut S,
+    pub sink: &'a mut K,
 }
 
 impl<S: Source, K: Sink> Link for Joined<'_, S, K> {

@@ -2,7 +2,8 @@
 ghost use Rattle.play_words.specs.Words.{OnePlay};
 ghost use Rattle.grid_play.specs.Bounds.{SessionsAreBounded};
 ghost use Rattle.grid_play.specs.OneConversation.{OneConversation};
-ghost use Rattle.grid_play.specs.Talks.{FirstCrewsAscend, OneTalk, SaidCrewsFit, SaidNodesFit, TalksKeepNumbers, TalksStand};
+ghost use Rattle.grid_play.specs.ServedTalks.{ServedIsATalk, StatusesTell};
+ghost use Rattle.grid_play.specs.Talks.{FirstCrewsAscend, OneTalk, SaidCrewsFit, SaidHubsAreValid, SaidNodesFit, TalksKeepNumbers, TalksStand};
 
 use caps_merge::{beats_give_one_answer, bodies_give_one_answer, registrations_give_one_answer};
 use http_frames::{one_head, one_reading, refused_heads_stay, stays};
@@ -32,7 +33,7 @@ pub fn one_conversation()
     conversations_find_spent_last();
 }
 
-/// In a conversation of `run` all pauses of a New Session but the last end before its time is over, so there are at most a fifteenth of
+/// In a conversation of `run` all pauses of a New Session whose client did not leave but the last end before its time is over, so there are at most a fifteenth of
 /// that time's milliseconds and one more; and it is started at most once for each node that is registered as it comes.
 pub fn sessions_are_bounded()
     ensures { SessionsAreBounded }
@@ -74,8 +75,16 @@ pub fn talks_stand()
     refused_heads_stay();
 }
 
-/// A node that words say is one that a crew may have, and all nodes of a play are.
+/// A node that words say is one that a crew may have, and all nodes of a play are; the hub that they say can be made.
 pub fn said_nodes_fit()
     ensures node { SaidNodesFit }
     ensures crew { SaidCrewsFit }
+    ensures hub { SaidHubsAreValid }
+{}
+
+/// A connection that was served by a hub of one thread, by nodes in memory and over a clock in memory, is one conversation from where
+/// these stood to where they stand. A failed read or write that the status of its end tells has happened.
+pub fn served_is_a_talk()
+    ensures talk { ServedIsATalk }
+    ensures statuses { StatusesTell }
 {}

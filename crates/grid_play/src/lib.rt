@@ -16,6 +16,9 @@ mod joined;
 mod laws;
 mod top;
 
-pub use crew::{Crew, crew_of};
-pub use laws::{one_conversation, one_talk, said_nodes_fit, sessions_are_bounded, talks_stand};
-pub use top::run;
+pub use crew::{Crew, crew_of, registration_of};
+pub use joined::Joined;
+pub use laws::{
+    one_conversation, one_talk, said_nodes_fit, served_is_a_talk, sessions_are_bounded, talks_stand,
+};
+pub use top::{run, status_of};

@@ -81,7 +81,7 @@ fn end_status(end: End, short: bool) -> u8
 }
 
 /// The status of a connection that ended so.
-fn status_of(ended: Result<Served, ConnFault>) -> u8
+pub fn status_of(ended: Result<Served, ConnFault>) -> u8
     ensures { result ≡ status_of ended }
 {
     match ended {

@@ -1,6 +1,6 @@
 -- What goes before a request, from its parts.
 use Rattle.std.proofs.Common.{◌≡◌, ◌≢◌, ℕ, ◌<◌, ◌≤◌, Bool, true, false, List, [], ◌∷◌, ◌++◌, refl, sym, ap, subst, ◌∙◌, arith, append_assoc, append-nil, inl, inr, zero, suc, ◌+◌, length, take, drop, get_or, add-one}
-use Rattle.std.specs.Prelude.{Option, None, Some, Result, Ok, Err, OnOk, OnErr, is_err}
+use Rattle.std.specs.Prelude.{Option, None, Some, Result, Ok, Err, IfOk}
 use Rattle.grid_types.specs.declared.entry.Entry.{Entry}
 use Rattle.grid_types.specs.Tokens.{Closing}
 use Rattle.grid_types.specs.Calls.{Call, Reply}
@@ -8,7 +8,6 @@ use Rattle.grid_outside.specs.Told.{ClockView, Tick}
 use Rattle.grid_outside.specs.declared.exchange.Ask.{Ask}
 use Rattle.grid_outside.specs.declared.exchange.ExchangeFault.TheVariants as fault
 use Rattle.grid_outside.specs.Exchanges.{Came}
-use Rattle.grid_types.specs.declared.text.NoMemory.{NoMemory}
 use Rattle.hub_core.specs.declared.answers.Beating.{Beating}
 use Rattle.hub_core.specs.declared.answers.Beating.TheVariants as beating
 use Rattle.hub_core.specs.Replies.{beating_reply}
@@ -22,7 +21,8 @@ use Rattle.local_driver.specs.declared.before.Idle.{Idle}
 use Rattle.local_driver.specs.declared.before.Idle.TheVariants as idle
 use Rattle.local_driver.specs.World.{World, Went, WentBy, world_of}
 use Rattle.local_driver.specs.Idles.{AsksOrLacks, AsksOnce, AsksAndFrees, EndsIdle, AllEnd, none_yet, one_more, Looked, EndsOne, live_count, is_no_lack, found_by}
-use Rattle.local_driver.specs.Beginning.{Beaten, none_beaten, beats_one, ExpiresOrLacks}
+use Rattle.own_hub.specs.Own.{HasRoom}
+use Rattle.local_driver.specs.Beginning.{Beaten, none_beaten, beats_one, BeginsOrLacks, ExpiresOrLacks}
 use Rattle.local_driver.proofs.LiveLemmas.{expire_lowers}
 use Rattle.local_driver.proofs.WayLemmas.{Ticks, Serves, serves_as, serves_not, serves_roomed, went_none, went_more, went_call, went_exchange}
 
@@ -117,6 +117,10 @@ module _ {N C : Type 0} (gives : N → List ℕ → Ask → Came → N → Type 
 
   pub all_none : (w : World N C) → WentBy gives tells AllEnd w w
   all_none w = record { steps = []; are = none_yet; went = went_none gives tells w }
+
+  -- what a look came to
+  pub found_so : (found it : Idle) (u w : World N C) → found ≡ it → WentBy gives tells (Looked found) u w → WentBy gives tells (Looked it) u w
+  found_so found it u w is p = subst (λ (f : Idle). WentBy gives tells (Looked f) u w) is p
 
   pub all_more : (u v w : World N C) → WentBy gives tells AllEnd u v → WentBy gives tells (Looked idle.Ended) v w → WentBy gives tells AllEnd u w
   all_more u v w p q = record { steps = p.steps ++ q.steps; are = one_more p.steps q.steps p.are q.are; went = went_more gives tells u v w p.steps q.steps p.went q.went }
@@ -213,19 +217,11 @@ module _ {N C : Type 0} (gives : N → List ℕ → Ask → Came → N → Type 
         (went_call gives tells h k n Call.sweep at (Some reply) m m' time time' serves ticks) q.went;
   }
 
-  pub sweeps_all : (ended : Bool) (h k : HubView) (n : N) (at : ℕ) (m m' : C) (reply : Reply) (time time' : ClockView) (x : World N C) → ended ≡ true →
+  pub swept_so : (ended : Bool) (h k : HubView) (n : N) (at : ℕ) (m m' : C) (reply : Reply) (time time' : ClockView) (x : World N C) →
       Serves h Call.sweep at (Some reply) k → Ticks tells m at m' time time' → WentBy gives tells (ExpiresOrLacks ended) (world_of k n m' time') x →
-      WentBy gives tells (Begins []) (world_of h n m time) x
-  sweeps_all ended h k n at m m' reply time time' x is serves ticks q =
-      sweeps_then Expires (Begins []) h k n at m m' reply time time' x (λ more y. swept at reply y) serves ticks
-      (subst (λ (b : Bool). WentBy gives tells (ExpiresOrLacks b) (world_of k n m' time') x) is q)
-
-  pub sweeps_lack : (ended : Bool) (h k : HubView) (n : N) (at : ℕ) (m m' : C) (reply : Reply) (time time' : ClockView) (x : World N C) → ended ≡ false →
-      Serves h Call.sweep at (Some reply) k → Ticks tells m at m' time time' → WentBy gives tells (ExpiresOrLacks ended) (world_of k n m' time') x →
-      WentBy gives tells (BeginLacks []) (world_of h n m time) x
-  sweeps_lack ended h k n at m m' reply time time' x is serves ticks q =
-      sweeps_then ExpireLacks (BeginLacks []) h k n at m m' reply time time' x (λ more y. behind_sweep at reply y) serves ticks
-      (subst (λ (b : Bool). WentBy gives tells (ExpiresOrLacks b) (world_of k n m' time') x) is q)
+      WentBy gives tells (BeginsOrLacks [] ended) (world_of h n m time) x
+  swept_so true h k n at m m' reply time time' x serves ticks q = sweeps_then Expires (Begins []) h k n at m m' reply time time' x (λ more y. swept at reply y) serves ticks q
+  swept_so false h k n at m m' reply time time' x serves ticks q = sweeps_then ExpireLacks (BeginLacks []) h k n at m m' reply time time' x (λ more y. behind_sweep at reply y) serves ticks q
 
   pub sweep_not : (h : HubView) (n : N) (at : ℕ) (m m' : C) (time time' : ClockView) → Ticks tells m at m' time time' →
       WentBy gives tells (BeginLacks []) (world_of h n m time) (world_of h n m' time')
@@ -270,13 +266,11 @@ ends_one found sent old roomed mid new at c told is serves keeps =
 
 -- ---- rooms that were made, or not
 
-pub on_err : {A E P : Type 0} (r : Result A E) → is_err r ≡ true → OnErr r P → P
-on_err (Ok a) e h = absurd cc
-on_err (Err x) e h = h
+pub roomed_so : (old new : HubView) (has : Bool) → has ≡ true → HasRoom has old new → new ≡ record old { room = true }
+roomed_so old new has is x = subst (λ (b : Bool). HasRoom b old new) is x
 
-pub on_ok : {A E P : Type 0} (r : Result A E) → is_err r ≡ false → OnOk r P → P
-on_ok (Ok a) e h = h
-on_ok (Err x) e h = absurd cc
+pub not_roomed : (old new : HubView) (has : Bool) → has ≡ false → HasRoom has old new → new ≡ old
+not_roomed old new has is x = subst (λ (b : Bool). HasRoom b old new) is x
 
 -- ---- lists of nodes
 
@@ -299,13 +293,9 @@ take_whole [] (suc i) le = refl
 take_whole (y ∷ xs) zero le = absurd (omega arith)
 take_whole (y ∷ xs) (suc i) le = ap (λ (zs : List ℕ). y ∷ zs) (take_whole xs i (omega arith))
 
-ok_then : {A E P Q : Type 0} (r : Result A E) → (P → Q) → OnOk r P → OnOk r Q
-ok_then (Ok a) f h = f h
-ok_then (Err e) f h = tt
-
-err_then : {A E P Q : Type 0} (r : Result A E) → (P → Q) → OnErr r P → OnErr r Q
-err_then (Ok a) f h = tt
-err_then (Err e) f h = f h
+pub if_then : {A E : Type 0} {P Q : A → Type 0} (r : Result A E) → ((a : A) → P a → Q a) → IfOk r P → IfOk r Q
+if_then (Ok a) f h = f a h
+if_then (Err e) f h = tt
 
 beat_replied : (b : Beating) (old : HubView) (node at : ℕ) (new : HubView) → Serves old (Call.beat node None) at (beating_reply b) new →
     (reply : Reply) × Serves old (Call.beat node None) at (Some reply) new
@@ -330,12 +320,14 @@ module _ {N C : Type 0} (gives : N → List ℕ → Ask → Came → N → Type 
       (subst (λ (ns : List ℕ). WentBy gives tells (BeginLacks ns) u (world_of h n m' time')) (sym (split_at own i 0 lt))
       (beaten_lacks gives tells u (take i own) (drop (suc i) own) (get_or own i 0) h n at m m' time time' p ticks))
 
-  pub begins_then : (own : List ℕ) (i : ℕ) (u v w : World N C) (r : Result (Unit {0}) NoMemory) → length own ≤ i → WentBy gives tells (Beaten (take i own)) u v →
-      OnOk r (WentBy gives tells (Begins []) v w) → OnOk r (WentBy gives tells (Begins own) u w)
-  begins_then own i u v w r le p h =
-      ok_then r (λ q. begins_all gives tells own u v w (subst (λ (ns : List ℕ). WentBy gives tells (Beaten ns) u v) (take_whole own i le) p) q) h
+  pub begins_then : (own : List ℕ) (i : ℕ) (u v w : World N C) (done : Bool) → length own ≤ i → WentBy gives tells (Beaten (take i own)) u v →
+      WentBy gives tells (BeginsOrLacks [] done) v w → WentBy gives tells (BeginsOrLacks own done) u w
+  begins_then own i u v w true le p q = begins_all gives tells own u v w (subst (λ (ns : List ℕ). WentBy gives tells (Beaten ns) u v) (take_whole own i le) p) q
+  begins_then own i u v w false le p q = lacks_all gives tells own u v w (subst (λ (ns : List ℕ). WentBy gives tells (Beaten ns) u v) (take_whole own i le) p) q
 
-  pub lacks_then : (own : List ℕ) (i : ℕ) (u v w : World N C) (r : Result (Unit {0}) NoMemory) → length own ≤ i → WentBy gives tells (Beaten (take i own)) u v →
-      OnErr r (WentBy gives tells (BeginLacks []) v w) → OnErr r (WentBy gives tells (BeginLacks own) u w)
-  lacks_then own i u v w r le p h =
-      err_then r (λ q. lacks_all gives tells own u v w (subst (λ (ns : List ℕ). WentBy gives tells (Beaten ns) u v) (take_whole own i le) p) q) h
+  -- what goes before a request was done, or not
+  pub begins_so : (own : List ℕ) (done : Bool) (u w : World N C) → done ≡ true → WentBy gives tells (BeginsOrLacks own done) u w → WentBy gives tells (Begins own) u w
+  begins_so own done u w is q = subst (λ (b : Bool). WentBy gives tells (BeginsOrLacks own b) u w) is q
+
+  pub lacks_so : (own : List ℕ) (done : Bool) (u w : World N C) → done ≡ false → WentBy gives tells (BeginsOrLacks own done) u w → WentBy gives tells (BeginLacks own) u w
+  lacks_so own done u w is q = subst (λ (b : Bool). WentBy gives tells (BeginsOrLacks own b) u w) is q

@@ -1,9 +1,8 @@
 -- How a call leaves the hub.
 use Rattle.std.proofs.Common.{◌≡◌, ℕ, Bool, true, false, ◌&&◌, List, refl, sym, ap, subst, inl, inr}
-use Rattle.std.specs.Prelude.{Option, None, Some, Result, Ok, Err, OnOk, OnErr, is_ok, nat_eq}
+use Rattle.std.specs.Prelude.{Option, None, Some, Result, Ok, Err, nat_eq}
 use Rattle.grid_types.specs.declared.config.HubConfig.{HubConfig}
 use Rattle.grid_types.specs.declared.entry.Entry.{Entry}
-use Rattle.grid_types.specs.declared.text.NoMemory.{NoMemory}
 use Rattle.grid_types.specs.Calls.{Call, Reply}
 use Rattle.grid_types.specs.HubAnswers.{hub}
 use Rattle.hub_core.specs.Answers.{Answers, may_lack}
@@ -12,7 +11,8 @@ use Rattle.hub_core.specs.Serves.{MayCall}
 use Rattle.conn_script.specs.declared.wants.HubAnswer.{HubAnswer}
 use Rattle.conn_script.specs.Wanted.{FitsKind, Keeps, kind_of, reply_of, is_spent}
 use Rattle.local_driver.specs.World.{AnswersAt}
-use Rattle.local_driver.specs.Calls.{HasRoom, ServesOn, Made}
+use Rattle.own_hub.specs.Own.{Own, Goes, GoesOrStops, HasAnswered, HasRoom, Roomed}
+use Rattle.local_driver.specs.Calls.{ServesOn, Made, MadeOn}
 
 answered_as : (c : HubConfig) (H : List Entry) (call : Call) (at : ℕ) (reply : Option Reply) (later : List Entry) → Answers c H 0 call at reply later →
     AnswersAt c H call at reply later
@@ -89,10 +89,39 @@ made_not old new call at answer room is has fits keeps unspent none x =
 pub lacks : (c : HubConfig) (H : List Entry) (call : Call) (at : ℕ) → ((reply : Reply) → may_lack call reply ≡ true) → AnswersAt c H call at None H
 lacks c H call at may = inl (inr (record { silent = refl; stays = refl; may = may (hub c H 0 call at).reply }))
 
-pub has : (r : Result (Unit {0}) NoMemory) (old new : HubView) → OnOk r (new ≡ record old { room = true }) → OnErr r (new ≡ old) → HasRoom (is_ok r) old new
-has (Ok a) old new ok err = ok
-has (Err e) old new ok err = err
-
 pub may_roomed : (old roomed : HubView) (call : Call) (room : Bool) → room ≡ true → HasRoom room old roomed → MayCall (past old) 0 call → MayCall (past roomed) 0 call
 may_roomed old roomed call room is has may =
     subst (λ (H : List Entry). MayCall H 0 call) (sym (ap past (subst (λ (b : Bool). HasRoom b old roomed) is has))) may
+
+-- ---- the same on a driver's hub
+
+module _ {S F : Type 0} (own : Own S F) where
+  pub goes_same : (old : S) → own.IsOpen old → Goes own old old
+  goes_same old is_open = record { is_open = is_open; along = λ first told. told }
+
+  pub goes_then : (old mid new : S) → Goes own old mid → Goes own mid new → Goes own old new
+  goes_then old mid new one more = record { is_open = more.is_open; along = λ first told. more.along first (one.along first told) }
+
+  pub on_made : (old new : S) (call : Call) (at : ℕ) (answer : HubAnswer) → FitsKind answer (kind_of call) → Keeps answer call → is_spent answer ≡ false →
+      HasAnswered own old call at (reply_of answer) new → MadeOn own old call at answer new
+  on_made old new call at answer fits keeps unspent x = record { made = made (own.shown old) call at answer (own.shown new) fits keeps unspent x.serves; goes = x.goes }
+
+  pub on_roomed : (old mid new : S) (call : Call) (at : ℕ) (answer : HubAnswer) (room : Bool) → room ≡ true → Roomed own room old mid →
+      FitsKind answer (kind_of call) → Keeps answer call → is_spent answer ≡ false → HasAnswered own mid call at (reply_of answer) new → MadeOn own old call at answer new
+  on_roomed old mid new call at answer room is roomed fits keeps unspent x = record {
+    made = made_roomed (own.shown old) (own.shown mid) call at answer (own.shown new) room is roomed.room fits keeps unspent x.serves;
+    goes = goes_then old mid new roomed.goes x.goes;
+  }
+
+  pub on_not_roomed : (old new : S) (call : Call) (at : ℕ) (answer : HubAnswer) (room : Bool) → room ≡ false → Roomed own room old new →
+      FitsKind answer (kind_of call) → Keeps answer call → is_spent answer ≡ false → reply_of answer ≡ None →
+      AnswersAt (own.shown old).config (past (own.shown old)) call at None (past (own.shown old)) → MadeOn own old call at answer new
+  on_not_roomed old new call at answer room is roomed fits keeps unspent none x = record {
+    made = made_not (own.shown old) (own.shown new) call at answer room is roomed.room fits keeps unspent none x;
+    goes = roomed.goes;
+  }
+
+  -- calls behind others
+  pub on_then : {A : Type 0} (old mid new : S) (result : Result A F) → Goes own old mid → GoesOrStops own mid result new → GoesOrStops own old result new
+  on_then old mid new (Ok a) one more = goes_then old mid new one more
+  on_then old mid new (Err fault) one stops = λ first told. stops first (one.along first told)

@@ -24,16 +24,20 @@ use Rattle.conn_script.specs.declared.wants.Answer.TheVariants as told
 use Rattle.conn_script.specs.declared.wants.HubAnswer.{HubAnswer}
 use Rattle.conn_script.specs.declared.wants.HubAnswer.TheVariants as answers
 use Rattle.conn_script.specs.NewSession.{poll_pause}
-use Rattle.conn_script.specs.Pauses.{ends_early_behind, is_early_poll}
+use Rattle.conn_script.specs.Pauses.{ends_early_behind, is_early_call}
 use Rattle.conn_script.specs.Wanted.{FitsKind, IsAwaited, count, kind_of, piece, reply_of}
 use Rattle.conn_script.specs.Work.{HubLowers, Lowers, NoMore, Outlook, PollLowers, QueueLowers}
 use Rattle.hub_links.specs.Links.{MovesSome}
+use Rattle.local_driver.specs.Calls.{MayMake}
 use Rattle.local_driver.specs.World.{AnswersAt}
 use Rattle.local_driver.proofs.TokenLemmas.{exact, lack_same, later_is, newest_kept}
 
 -- the outlook at a history and a moment
 abbrev pub outlook : List Entry → ℕ → Outlook
 outlook H m = record { starts = starts_left H (newest_request H); pauses = last_moment - m }
+
+never : false ≡ true → ⊥
+never e = cc
 
 -- ---- reads, writes and exchanges
 
@@ -47,6 +51,7 @@ read_lowers told.Begun most before later h some = absurd h
 read_lowers (told.Hub answer) most before later h some = absurd h
 read_lowers (told.Node came) most before later h some = absurd h
 read_lowers told.Paused most before later h some = absurd h
+read_lowers told.Gone most before later h some = absurd (never h)
 
 pub write_lowers : (answer : Answer) (most : ℕ) (before later : Outlook) → IsAwaited answer (count most) → MovesSome answer → Lowers answer before later
 write_lowers (told.Wrote n) most before later h some = some
@@ -58,6 +63,7 @@ write_lowers told.Begun most before later h some = absurd h
 write_lowers (told.Hub answer) most before later h some = absurd h
 write_lowers (told.Node came) most before later h some = absurd h
 write_lowers told.Paused most before later h some = absurd h
+write_lowers told.Gone most before later h some = absurd (never h)
 
 pub no_more_same : (o : Outlook) → NoMore o o
 no_more_same o = (omega arith, omega arith)
@@ -125,26 +131,27 @@ module _ (newest : CallsKeepNewest) (starts : StartsRunOut) (early : PollsAreEar
   enqueue_lowers enqueued.NumbersSpent later l = tt
   enqueue_lowers enqueued.Memory later l = tt
 
-  pub hub_lowers : legal c H ≡ true → (call : Call) (answer : HubAnswer) (later : List Entry) → legal c later ≡ true → FitsKind answer (kind_of call) → PollsNewest H call →
-      AnswersAt c H call at (reply_of answer) later → HubLowers answer (outlook H m) (outlook later m')
-  hub_lowers l call (answers.Enqueue a) later k fits is x = enqueue_lowers a later k
-  hub_lowers l (Call.poll t) (answers.Poll a) later k fits is x = poll_lowers l t a later is x
-  hub_lowers l (Call.bind r session caps) (answers.Bind a) later k fits is x =
+  pub hub_lowers : legal c H ≡ true → (call : Call) (answer : HubAnswer) (later : List Entry) → legal c later ≡ true → MayMake H call → FitsKind answer (kind_of call) →
+      PollsNewest H call → AnswersAt c H call at (reply_of answer) later → HubLowers answer (outlook H m) (outlook later m')
+  hub_lowers l (Call.withdraw t) answer later k may fits is x = absurd may
+  hub_lowers l call (answers.Enqueue a) later k may fits is x = enqueue_lowers a later k
+  hub_lowers l (Call.poll t) (answers.Poll a) later k may fits is x = poll_lowers l t a later is x
+  hub_lowers l (Call.bind r session caps) (answers.Bind a) later k may fits is x =
       opens_none (Call.bind r session caps) (binding_reply a) later refl (λ q. starts.bind c H 0 r session caps at q) x
-  hub_lowers l (Call.fail r w) (answers.Fail a) later k fits is x = opens_none (Call.fail r w) (failing_reply a) later refl (λ q. starts.fail c H 0 r w at q) x
-  hub_lowers l (Call.freed z) answers.Freed later k fits is x = opens_none (Call.freed z) (Some Reply.is_freed) later refl (λ q. starts.freed c H 0 z at q) x
-  hub_lowers l call (answers.Register a) later k fits is x = tt
-  hub_lowers l call (answers.Beat a) later k fits is x = tt
-  hub_lowers l call (answers.Drain a) later k fits is x = tt
-  hub_lowers l call (answers.Remove a) later k fits is x = tt
-  hub_lowers l call (answers.Lookup f) later k fits is x = tt
-  hub_lowers l call (answers.Touch a) later k fits is x = tt
-  hub_lowers l call (answers.End a) later k fits is x = tt
-  hub_lowers l call (answers.Clear cleared) later k fits is x = tt
-  hub_lowers l call (answers.View a) later k fits is x = tt
-  hub_lowers l call answers.NoRoom later k fits is x = tt
-  hub_lowers l call (answers.Spent s) later k fits is x = tt
-  hub_lowers l call answer later k fits is x = absurd cc
+  hub_lowers l (Call.fail r w) (answers.Fail a) later k may fits is x = opens_none (Call.fail r w) (failing_reply a) later refl (λ q. starts.fail c H 0 r w at q) x
+  hub_lowers l (Call.freed z) answers.Freed later k may fits is x = opens_none (Call.freed z) (Some Reply.is_freed) later refl (λ q. starts.freed c H 0 z at q) x
+  hub_lowers l call (answers.Register a) later k may fits is x = tt
+  hub_lowers l call (answers.Beat a) later k may fits is x = tt
+  hub_lowers l call (answers.Drain a) later k may fits is x = tt
+  hub_lowers l call (answers.Remove a) later k may fits is x = tt
+  hub_lowers l call (answers.Lookup f) later k may fits is x = tt
+  hub_lowers l call (answers.Touch a) later k may fits is x = tt
+  hub_lowers l call (answers.End a) later k may fits is x = tt
+  hub_lowers l call (answers.Clear cleared) later k may fits is x = tt
+  hub_lowers l call (answers.View a) later k may fits is x = tt
+  hub_lowers l call answers.NoRoom later k may fits is x = tt
+  hub_lowers l call (answers.Spent s) later k may fits is x = tt
+  hub_lowers l call answer later k may fits is x = absurd cc
 
   -- ---- the last moment is ahead
 
@@ -158,18 +165,19 @@ module _ (newest : CallsKeepNewest) (starts : StartsRunOut) (early : PollsAreEar
   lacks_early t reply e may = absurd cc
 
   -- behind a poll that was told to wait, or found no memory
-  pub early_ahead : legal c H ≡ true → (call : Call) (reply : Option Reply) (later : List Entry) → AnswersAt c H call at reply later → is_early_poll (Called call at reply) ≡ true →
+  pub early_ahead : legal c H ≡ true → (call : Call) (reply : Option Reply) (later : List Entry) → MayMake H call → AnswersAt c H call at reply later → is_early_call (Called call at reply) ≡ true →
       at < last_moment
-  early_ahead l (Call.poll t) None later (inl (inl x)) e = absurd (none_some x.replies)
+  early_ahead l (Call.withdraw t) reply later may x e = absurd may
+  early_ahead l (Call.poll t) None later may (inl (inl x)) e = absurd (none_some x.replies)
     where
       none_some : None ≡ Some (hub c H 0 (Call.poll t) at).reply → ⊥
       none_some e = cc
-  early_ahead l (Call.poll t) None later (inl (inr x)) e = ahead t l (lacks_early t (hub c H 0 (Call.poll t) at).reply refl x.may)
-  early_ahead l (Call.poll t) None later (inr x) e = absurd (let no = x.0 in cc)
-  early_ahead l (Call.poll t) (Some (Reply.not_yet u)) later x e = ahead t l (early.not_yet c H 0 t u at (exact c H (Call.poll t) at (Reply.not_yet u) later x).0).0
-  early_ahead l call reply later x e = absurd cc
+  early_ahead l (Call.poll t) None later may (inl (inr x)) e = ahead t l (lacks_early t (hub c H 0 (Call.poll t) at).reply refl x.may)
+  early_ahead l (Call.poll t) None later may (inr x) e = absurd (let no = x.0 in cc)
+  early_ahead l (Call.poll t) (Some (Reply.not_yet u)) later may x e = ahead t l (early.not_yet c H 0 t u at (exact c H (Call.poll t) at (Reply.not_yet u) later x).0).0
+  early_ahead l call reply later may x e = absurd cc
 
 -- the last step tells
-pub one_last : (before : Bool) (steps : List Step) (step : Step) → ends_early_behind before (steps ++ step ∷ []) ≡ is_early_poll step
+pub one_last : (before : Bool) (steps : List Step) (step : Step) → ends_early_behind before (steps ++ step ∷ []) ≡ is_early_call step
 one_last before [] step = refl
-one_last before (s ∷ steps) step = one_last (is_early_poll s) steps step
+one_last before (s ∷ steps) step = one_last (is_early_call s) steps step

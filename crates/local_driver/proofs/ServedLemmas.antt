@@ -1,6 +1,6 @@
 -- From the first turn to the last, and what is told at the end.
 use Rattle.std.proofs.Common.{◌≡◌, ◌≢◌, ℕ, ◌≤◌, Bool, true, false, List, [], ◌∷◌, ◌++◌, refl, sym, subst, ◌∙◌, arith}
-use Rattle.std.specs.Prelude.{Some, Result, Ok, Err, IfOk}
+use Rattle.std.specs.Prelude.{Option, Some, Result, Ok, Err, IfOk}
 use Rattle.grid_types.specs.declared.config.HubConfig.{HubConfig}
 use Rattle.grid_types.specs.declared.entry.Entry.{Entry}
 use Rattle.grid_types.specs.Legal.{legal}
@@ -25,7 +25,7 @@ use Rattle.hub_conn.specs.Talk.{Cause, IsNew, end_cause, result_cause}
 use Rattle.hub_links.specs.Links.{RoseFor}
 use Rattle.local_driver.specs.World.{Answered}
 use Rattle.local_driver.specs.Served.{Blames, EndsSo, HasServed, Outside, ServedLocally}
-use Rattle.local_driver.specs.Serving.{EndedSo, HasAll, Serving}
+use Rattle.local_driver.specs.Serving.{EndedSo, HasAll, Serving, Turned}
 use Rattle.local_driver.proofs.OnwardLemmas.{onward_none}
 
 ends_so : (end : End) (l m : LinkView) → RoseFor (end_cause end) l m → EndsSo end l m
@@ -57,6 +57,11 @@ never_last c G H false steps finds a e = cc
 never_last c G H true steps finds a e = not_answered c G H finds.before finds.call finds.at (subst (λ (s : List Step). Answered c G s H) finds.steps_are a)
 
 module _ {N C : Type 0} (gives : N → List ℕ → Ask → Came → N → Type 0) (tells : C → Tick → ℕ → C → Type 0) (own : List ℕ) where
+  -- it ended in this turn
+  pub ended_so : (talk later : Talk) (first o p : Outside N C) (ended : Option (Result Served ConnFault)) (result : Result Served ConnFault) → ended ≡ Some result →
+      Turned gives tells own talk o ended later p → Serving gives tells own first talk o → EndedSo gives tells own first result p
+  ended_so talk later first o p ended result is turned serving = (subst (λ (e : Option (Result Served ConnFault)). Turned gives tells own talk o e later p) is turned) first serving
+
   pub serving_start : (talk : Talk) (o : Outside N C) → IsNew talk → Serving gives tells own o talk o
   serving_start talk o new = record {
     want = to_read PIECE;
@@ -66,6 +71,7 @@ module _ {N C : Type 0} (gives : N → List ℕ → Ask → Came → N → Type 
     stands = new.stands (Some own);
     onward = onward_none gives tells o;
     fresh = new.fresh;
+    stays = new.stays;
     has = subst (λ (ts : List Token). HasAll (past o.world.hub) ts) (sym new.no_tokens) tt;
     early = λ e. absurd (never e);
     within = within;

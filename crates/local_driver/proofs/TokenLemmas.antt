@@ -53,25 +53,31 @@ and_right : (a b : Bool) → (a && b) ≡ true → b ≡ true
 and_right true b e = e
 and_right false b e = absurd cc
 
+-- it withdraws no request
+abbrev pub StaysWith : Call → Type 0
+StaysWith (Call.withdraw t) = ⊥
+StaysWith call = Unit {0}
+
 -- a call that brings what is asked, beside tokens that are good
-pub may_make : (H : List Entry) (call : Call) → HasAll H (call_tokens call) → is_rightful call ≡ true → MayMake H call
-may_make H (Call.register node) has right = record { is_good = right; is_true = tt }
-may_make H (Call.poll t) has right = record { is_good = has.0.0; is_true = has.0.1 }
-may_make H (Call.bind r session caps) has right = record { is_good = has.0.0; is_true = has.0.1 }
-may_make H (Call.fail r why) has right = record { is_good = both _ _ has.0.0 right; is_true = has.0.1 }
-may_make H (Call.freed c) has right = record { is_good = has.0; is_true = tt }
-may_make H (Call.beat node name) has right = record { is_good = refl; is_true = tt }
-may_make H (Call.drain node) has right = record { is_good = refl; is_true = tt }
-may_make H (Call.remove node) has right = record { is_good = refl; is_true = tt }
-may_make H (Call.enqueue choices) has right = tt
-may_make H Call.dispatch has right = record { is_good = refl; is_true = tt }
-may_make H (Call.lookup session) has right = record { is_good = refl; is_true = tt }
-may_make H (Call.touch session number) has right = record { is_good = refl; is_true = tt }
-may_make H (Call.end session number) has right = record { is_good = refl; is_true = tt }
-may_make H Call.sweep has right = record { is_good = refl; is_true = tt }
-may_make H Call.expire has right = record { is_good = refl; is_true = tt }
-may_make H Call.clear has right = record { is_good = refl; is_true = tt }
-may_make H Call.view has right = record { is_good = refl; is_true = tt }
+pub may_make : (H : List Entry) (call : Call) → HasAll H (call_tokens call) → is_rightful call ≡ true → StaysWith call → MayMake H call
+may_make H (Call.register node) has right stays = record { is_good = right; is_true = tt }
+may_make H (Call.poll t) has right stays = record { is_good = has.0.0; is_true = has.0.1 }
+may_make H (Call.withdraw t) has right stays = absurd stays
+may_make H (Call.bind r session caps) has right stays = record { is_good = has.0.0; is_true = has.0.1 }
+may_make H (Call.fail r why) has right stays = record { is_good = both _ _ has.0.0 right; is_true = has.0.1 }
+may_make H (Call.freed c) has right stays = record { is_good = has.0; is_true = tt }
+may_make H (Call.beat node name) has right stays = record { is_good = refl; is_true = tt }
+may_make H (Call.drain node) has right stays = record { is_good = refl; is_true = tt }
+may_make H (Call.remove node) has right stays = record { is_good = refl; is_true = tt }
+may_make H (Call.enqueue choices) has right stays = tt
+may_make H Call.dispatch has right stays = record { is_good = refl; is_true = tt }
+may_make H (Call.lookup session) has right stays = record { is_good = refl; is_true = tt }
+may_make H (Call.touch session number) has right stays = record { is_good = refl; is_true = tt }
+may_make H (Call.end session number) has right stays = record { is_good = refl; is_true = tt }
+may_make H Call.sweep has right stays = record { is_good = refl; is_true = tt }
+may_make H Call.expire has right stays = record { is_good = refl; is_true = tt }
+may_make H Call.clear has right stays = record { is_good = refl; is_true = tt }
+may_make H Call.view has right stays = record { is_good = refl; is_true = tt }
 
 -- ---- which request was queued last
 
@@ -186,27 +192,29 @@ module _ (laws : CallsKeepNewest) (starts : StartsRunOut) (early : PollsAreEarly
   end_has call ending.NoSession s = tt
 
   -- the tokens that an answer brings
-  brings : legal h.config (past h) ≡ true → (call : Call) (answer : HubAnswer) → Made h call at answer k → HasAll (past h) (call_tokens call) → HasAll (past k) (answer_tokens answer)
-  brings l (Call.enqueue choices) (answers.Enqueue a) m has = enqueue_has choices a m.serves
-  brings l (Call.poll t) (answers.Poll a) m has = poll_has l t a m.keeps m.serves has
-  brings l (Call.bind q session caps) (answers.Bind a) m has = bind_has q session caps a m.keeps m.serves has
-  brings l call (answers.End a) m has = end_has call a m.serves
-  brings l call (answers.Register a) m has = tt
-  brings l call (answers.Beat a) m has = tt
-  brings l call (answers.Drain a) m has = tt
-  brings l call (answers.Remove a) m has = tt
-  brings l call (answers.Fail a) m has = tt
-  brings l call (answers.Lookup f) m has = tt
-  brings l call (answers.Touch a) m has = tt
-  brings l call answers.Freed m has = tt
-  brings l call (answers.Clear count) m has = tt
-  brings l call (answers.View a) m has = tt
-  brings l call answers.NoRoom m has = tt
-  brings l call (answers.Spent s) m has = tt
-  brings l call answer m has = absurd (let fits = m.fits in cc)
+  brings : legal h.config (past h) ≡ true → (call : Call) (answer : HubAnswer) → MayMake (past h) call → Made h call at answer k → HasAll (past h) (call_tokens call) →
+      HasAll (past k) (answer_tokens answer)
+  brings l (Call.withdraw t) answer may m has = absurd may
+  brings l (Call.enqueue choices) (answers.Enqueue a) may m has = enqueue_has choices a m.serves
+  brings l (Call.poll t) (answers.Poll a) may m has = poll_has l t a m.keeps m.serves has
+  brings l (Call.bind q session caps) (answers.Bind a) may m has = bind_has q session caps a m.keeps m.serves has
+  brings l call (answers.End a) may m has = end_has call a m.serves
+  brings l call (answers.Register a) may m has = tt
+  brings l call (answers.Beat a) may m has = tt
+  brings l call (answers.Drain a) may m has = tt
+  brings l call (answers.Remove a) may m has = tt
+  brings l call (answers.Fail a) may m has = tt
+  brings l call (answers.Lookup f) may m has = tt
+  brings l call (answers.Touch a) may m has = tt
+  brings l call answers.Freed may m has = tt
+  brings l call (answers.Clear count) may m has = tt
+  brings l call (answers.View a) may m has = tt
+  brings l call answers.NoRoom may m has = tt
+  brings l call (answers.Spent s) may m has = tt
+  brings l call answer may m has = absurd (let fits = m.fits in cc)
 
   -- and those beside the call
-  pub held_after : legal h.config (past h) ≡ true → (call : Call) (answer : HubAnswer) (left : List Token) → Made h call at answer k → HasAll (past h) (call_tokens call) →
-      HasAll (past h) left → AreBeside call left → (is_enqueue call ≡ true → left ≡ []) → HasAll (past k) (answer_tokens answer ++ left)
-  held_after l call answer left m has rest beside none =
-      has_both (past k) (answer_tokens answer) left (brings l call answer m has) (keeps_left laws h k call at (reply_of answer) m.serves left rest beside none)
+  pub held_after : legal h.config (past h) ≡ true → (call : Call) (answer : HubAnswer) (left : List Token) → MayMake (past h) call → Made h call at answer k →
+      HasAll (past h) (call_tokens call) → HasAll (past h) left → AreBeside call left → (is_enqueue call ≡ true → left ≡ []) → HasAll (past k) (answer_tokens answer ++ left)
+  held_after l call answer left may m has rest beside none =
+      has_both (past k) (answer_tokens answer) left (brings l call answer may m has) (keeps_left laws h k call at (reply_of answer) m.serves left rest beside none)

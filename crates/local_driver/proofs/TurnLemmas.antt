@@ -1,10 +1,10 @@
 -- What one turn does, by what was wanted.
-use Rattle.std.proofs.Common.{◌≡◌, ℕ, ◌<◌, ◌≤◌, Bool, true, false, List, [], ◌∷◌, ◌++◌, length, refl, sym, ap, subst, ◌∙◌, append-nil, length-append, arith}
+use Rattle.std.proofs.Common.{◌≡◌, ◌≢◌, ℕ, ◌<◌, ◌≤◌, Bool, true, false, List, [], ◌∷◌, ◌++◌, length, refl, sym, ap, subst, ◌∙◌, append-nil, length-append, arith}
 use Rattle.std.specs.Prelude.{Option, None, Some, Result, Err, is_some}
 use Rattle.std.specs.Borrow.{Bor}
 use Rattle.grid_types.specs.declared.entry.Entry.{Entry}
 use Rattle.grid_types.specs.Calls.{Call, Reply}
-use Rattle.grid_types.specs.Tokens.{Closing}
+use Rattle.grid_types.specs.Tokens.{Closing, Ticket}
 use Rattle.grid_types.specs.Legal.{legal}
 use Rattle.grid_types.specs.Permitted.{last_moment}
 use Rattle.grid_outside.specs.Told.{ClockView, LinkView, Tick}
@@ -24,18 +24,19 @@ use Rattle.conn_script.specs.declared.wants.ConnFault.TheVariants as faults
 use Rattle.conn_script.specs.declared.wants.HubAnswer.{HubAnswer}
 use Rattle.conn_script.specs.declared.wants.HubAnswer.TheVariants as answers
 use Rattle.conn_script.specs.declared.wants.HubCall.{HubCall}
+use Rattle.conn_script.specs.declared.wants.HubCall.TheVariants as wanted
 use Rattle.conn_script.specs.declared.wants.Served.{Served}
 use Rattle.conn_script.specs.declared.wants.TheConstants.{LIMIT}
 use Rattle.conn_script.specs.declared.wants.Want.{Want}
 use Rattle.conn_script.specs.declared.wants.Want.TheVariants as wants
-use Rattle.conn_script.specs.Pauses.{ends_early, ends_early_behind, is_early_poll}
+use Rattle.conn_script.specs.Pauses.{ends_early, ends_early_behind, is_early_call}
 use Rattle.grid_types.specs.declared.config.HubConfig.{HubConfig}
 use Rattle.conn_script.specs.Work.{Outlook}
 use Rattle.conn_script.specs.Wanted.{Awaited, Fits, IsAwaited, Made, Readies, Shows, Wanted, bytes_in, call_of, call_step, call_tokens, count, is_spent, over, piece, reply_of, taken_of, to_ask, to_begin, to_call, to_pause, to_read, to_write}
 use Rattle.hub_conn.specs.declared.talk.Talk.{Talk}
 use Rattle.hub_conn.specs.CallLaws.{CallLaws}
 use Rattle.hub_conn.specs.WantLaws.{WantLaws}
-use Rattle.hub_conn.specs.Talk.{Cause, Feeds, HandsOut, IsHeld, Says, Stands, StandsForSome, Takes, awaited, blamed, cause_after, cause_of, held, result_cause, tokens}
+use Rattle.hub_conn.specs.Talk.{Cause, Feeds, HandsOut, IsHeld, Says, Stands, StandsForSome, Takes, awaited, blamed, cause_after, cause_of, held, leaves, result_cause, tokens}
 use Rattle.hub_conn.specs.Work.{work}
 use Rattle.hub_links.specs.Links.{DoesLink, MovesSome, RoseFor}
 use Rattle.hub_links.specs.LinkLaws.{Adds, IsPlain, caused_on, plain_tokens, read_adds, write_adds}
@@ -46,7 +47,7 @@ use Rattle.local_driver.specs.Served.{Onward, Outside, outside_of}
 use Rattle.local_driver.specs.Serving.{HasAll, Serving, Turned, outlook_of}
 use Rattle.local_driver.proofs.LessLemmas.{PollsNewest, early_ahead, hub_lowers, no_more_same, outlook, one_last, pause_lowers, read_lowers, write_lowers}
 use Rattle.local_driver.proofs.OnwardLemmas.{onward_link, onward_more, onward_world}
-use Rattle.local_driver.proofs.TokenLemmas.{has_left, has_right, held_after, may_make}
+use Rattle.local_driver.proofs.TokenLemmas.{StaysWith, has_left, has_right, held_after, may_make}
 use Rattle.local_driver.proofs.WayLemmas.{PausesFor, Ticks, went_call, went_exchange, went_pause}
 
 never : false ≡ true → ⊥
@@ -69,7 +70,7 @@ node_awaits talk want address request result hands is =
     subst (λ (a : Awaited). IsAwaited (told.Node result) a) (sym (subst (λ (y : Want). Readies y (awaited talk) (held talk)) is hands.readies)) tt
 
 pub pause_awaits : (talk : Talk) (want : Want) (ms : ℕ) → HandsOut talk want → want ≡ wants.Pause ms → IsAwaited told.Paused (awaited talk)
-pause_awaits talk want ms hands is = subst (λ (a : Awaited). IsAwaited told.Paused a) (sym (subst (λ (y : Want). Readies y (awaited talk) (held talk)) is hands.readies)) tt
+pause_awaits talk want ms hands is = subst (λ (y : Want). Readies y (awaited talk) (held talk)) is hands.readies
 
 pub call_held : (talk : Talk) (want : Want) → HandsOut talk want → want ≡ wants.Hub → IsHeld (held talk)
 call_held talk want hands is = ap is_some (subst (λ (y : Want). Readies y (awaited talk) (held talk)) is hands.readies).1
@@ -85,6 +86,46 @@ few_bytes told.Begun most h = absurd h
 few_bytes (told.Hub answer) most h = absurd h
 few_bytes (told.Node came) most h = absurd h
 few_bytes told.Paused most h = absurd h
+few_bytes told.Gone most h = omega arith
+
+-- ---- no client is told to have left
+
+read_none : (answer : Answer) (most : ℕ) → IsAwaited answer (piece most) → answer ≢ told.Gone
+read_none answer most h is = never (subst (λ (a : Answer). IsAwaited a (piece most)) is h)
+
+write_none : (answer : Answer) (most : ℕ) → IsAwaited answer (count most) → answer ≢ told.Gone
+write_none answer most h is = never (subst (λ (a : Answer). IsAwaited a (count most)) is h)
+
+begun_none : told.Begun ≢ told.Gone
+begun_none is = cc
+
+node_none : (came : Came) → told.Node came ≢ told.Gone
+node_none came is = cc
+
+pause_none : told.Paused ≢ told.Gone
+pause_none is = cc
+
+hub_none : (answer : HubAnswer) → told.Hub answer ≢ told.Gone
+hub_none answer is = cc
+
+-- so no request is withdrawn
+stays_with : (call : HubCall) (b : Bool) → ((t : Ticket) → call ≡ wanted.Withdraw t → b ≡ true) → b ≡ false → StaysWith (call_of call)
+stays_with (wanted.Withdraw t) b leaves_so e = never (sym e ∙ leaves_so t refl)
+stays_with (wanted.Register node) b leaves_so e = tt
+stays_with (wanted.Beat node) b leaves_so e = tt
+stays_with (wanted.BeatAs node name) b leaves_so e = tt
+stays_with (wanted.Drain node) b leaves_so e = tt
+stays_with (wanted.Remove node) b leaves_so e = tt
+stays_with (wanted.Enqueue choices) b leaves_so e = tt
+stays_with (wanted.Poll t) b leaves_so e = tt
+stays_with (wanted.Bind r session caps) b leaves_so e = tt
+stays_with (wanted.Fail r why) b leaves_so e = tt
+stays_with (wanted.Lookup session) b leaves_so e = tt
+stays_with (wanted.Touch session binding) b leaves_so e = tt
+stays_with (wanted.End session binding) b leaves_so e = tt
+stays_with (wanted.Freed c) b leaves_so e = tt
+stays_with wanted.Clear b leaves_so e = tt
+stays_with wanted.View b leaves_so e = tt
 
 -- ---- what goes before a request ends with no poll
 
@@ -103,7 +144,7 @@ begins_late _ before _ (begin.beaten {nodes} {more} node at reply rest) = begins
 
 last_late : (before : Bool) (steps more : List Step) → ((b : Bool) → ends_early_behind b more ≡ false) → ends_early_behind before (steps ++ more) ≡ false
 last_late before [] more late = late before
-last_late before (step ∷ steps) more late = last_late (is_early_poll step) steps more late
+last_late before (step ∷ steps) more late = last_late (is_early_call step) steps more late
 
 module _ {N C : Type 0} (gives : N → List ℕ → Ask → Came → N → Type 0) (tells : C → Tick → ℕ → C → Type 0) (own : List ℕ) where
   -- ---- before a turn
@@ -135,11 +176,11 @@ module _ {N C : Type 0} (gives : N → List ℕ → Ask → Came → N → Type 
   -- ---- after it
 
   fed : (first before after : Outside N C) (talk mid new : Talk) (answer : Answer) (steps : List Step) (bytes written : List ℕ) (s : Serving gives tells own first talk before) →
-      Stands mid (Some own) s.want s.bytes s.steps s.written → blamed mid ≡ blamed talk → Feeds mid answer new → Fits answer s.want → Made (Some own) answer s.want steps →
+      Stands mid (Some own) s.want s.bytes s.steps s.written → blamed mid ≡ blamed talk → leaves mid ≡ leaves talk → answer ≢ told.Gone → Feeds mid answer new → Fits answer s.want → Made (Some own) answer s.want steps →
       bytes_in answer ≡ bytes → taken_of answer s.want ≡ written → Onward gives tells before bytes steps written after → RoseFor (cause_of answer) before.link after.link →
       HasAll (past after.world.hub) (tokens new) → (ends_early (s.steps ++ steps) ≡ true → after.world.time.moment < last_moment) → length (s.bytes ++ bytes) ≤ LIMIT →
       Serving gives tells own first new after
-  fed first before after talk mid new answer steps bytes written s stands same feeds fits made came took onward rose has early within =
+  fed first before after talk mid new answer steps bytes written s stands same calm other feeds fits made came took onward rose has early within =
       let next = feeds.stands (Some own) s.want s.bytes s.steps s.written steps stands fits made in
       let there = subst (λ (xs : List ℕ). Stands new (Some own) next.0 (s.bytes ++ xs) (s.steps ++ steps) (s.written ++ taken_of answer s.want)) came next.1 in
       record {
@@ -150,6 +191,7 @@ module _ {N C : Type 0} (gives : N → List ℕ → Ask → Came → N → Type 
         stands = subst (λ (xs : List ℕ). Stands new (Some own) next.0 (s.bytes ++ bytes) (s.steps ++ steps) (s.written ++ xs)) took there;
         onward = onward_more gives tells first before after s.bytes bytes s.steps steps s.written written s.onward onward;
         fresh = feeds.fresh;
+        stays = feeds.stays other (calm ∙ s.stays);
         has = has;
         early = early;
         within = within;
@@ -163,11 +205,11 @@ module _ {N C : Type 0} (gives : N → List ℕ → Ask → Came → N → Type 
 
   -- one that was not the hub's
   plain_fed : (first before after : Outside N C) (talk new : Talk) (answer : Answer) (want : Wanted) (steps : List Step) (bytes written : List ℕ) (s : Serving gives tells own first talk before) →
-      s.want ≡ want → Feeds talk answer new → Fits answer want → Made (Some own) answer want steps → bytes_in answer ≡ bytes → taken_of answer want ≡ written → IsPlain answer →
+      s.want ≡ want → answer ≢ told.Gone → Feeds talk answer new → Fits answer want → Made (Some own) answer want steps → bytes_in answer ≡ bytes → taken_of answer want ≡ written → IsPlain answer →
       Onward gives tells before bytes steps written after → RoseFor (cause_of answer) before.link after.link → past after.world.hub ≡ past before.world.hub →
       (ends_early (s.steps ++ steps) ≡ true → after.world.time.moment < last_moment) → length (s.bytes ++ bytes) ≤ LIMIT → Serving gives tells own first new after
-  plain_fed first before after talk new answer want steps bytes written s is feeds fits made came took plain onward rose same early within =
-      fed first before after talk talk new answer steps bytes written s s.stands refl feeds (subst (λ (x : Wanted). Fits answer x) (sym is) fits)
+  plain_fed first before after talk new answer want steps bytes written s is other feeds fits made came took plain onward rose same early within =
+      fed first before after talk talk new answer steps bytes written s s.stands refl refl other feeds (subst (λ (x : Wanted). Fits answer x) (sym is) fits)
       (subst (λ (x : Wanted). Made (Some own) answer x steps) (sym is) made) came (ap (taken_of answer) is ∙ took) onward rose
       (subst (λ (H : List Entry). HasAll H (tokens new)) (sym same)
       (subst (λ (ts : List Token). HasAll (past before.world.hub) ts) (sym (plain_tokens talk new answer feeds.keeps plain)) s.has)) early within
@@ -188,7 +230,7 @@ module _ {N C : Type 0} (gives : N → List ℕ → Ask → Came → N → Type 
       by_want : (first : Outside N C) (s : Serving gives tells own first talk (outside_of w l)) → s.want ≡ to_read most → Serving gives tells own first new (outside_of w m)
       by_want first s e =
           let room = laws.reads talk (Some own) most s.bytes s.steps s.written (stands_as first talk (outside_of w l) (to_read most) s e) in
-          plain_fed first (outside_of w l) (outside_of w m) talk new answer (to_read most) [] (bytes_in answer) [] s e feeds
+          plain_fed first (outside_of w l) (outside_of w m) talk new answer (to_read most) [] (bytes_in answer) [] s e (read_none answer most does.fits) feeds
           adds.fits adds.made adds.bytes_are adds.taken_are adds.plain (onward_link gives tells w l m (bytes_in answer) [] does.moved) does.rose refl
           (still_early first talk (outside_of w l) w.time.moment s refl)
           (omega (arith, length-append s.bytes (bytes_in answer), room, few_bytes answer most does.fits))
@@ -199,7 +241,7 @@ module _ {N C : Type 0} (gives : N → List ℕ → Ask → Came → N → Type 
   write_turn talk new want bytes answer w l m hands is does feeds = λ first s.
       let adds = write_adds (Some own) answer bytes.now does.fits in
       plain_fed first (outside_of w l) (outside_of w m) talk new answer (to_write bytes.now) [] [] (taken_of answer (to_write bytes.now)) s
-      (subst (λ (y : Want). Shows y s.want) is (shown first talk (outside_of w l) want s hands)) feeds
+      (subst (λ (y : Want). Shows y s.want) is (shown first talk (outside_of w l) want s hands)) (write_none answer (length bytes.now) does.fits) feeds
       adds.fits adds.made adds.bytes_are adds.taken_are adds.plain (onward_link gives tells w l m [] (taken_of answer (to_write bytes.now)) does.moved) does.rose refl
       (still_early first talk (outside_of w l) w.time.moment s refl) (none_more s.bytes s.within)
 
@@ -212,7 +254,7 @@ module _ {N C : Type 0} (gives : N → List ℕ → Ask → Came → N → Type 
       by_want : (first : Outside N C) (s : Serving gives tells own first talk (outside_of v l)) → s.want ≡ to_begin → Serving gives tells own first new (outside_of w l)
       by_want first s e =
           let none = laws.none_held talk (Some own) to_begin s.bytes s.steps s.written (stands_as first talk (outside_of v l) to_begin s e) in
-          fed first (outside_of v l) (outside_of w l) talk talk new told.Begun way.steps [] [] s s.stands refl feeds (subst (λ (x : Wanted). Fits told.Begun x) (sym e) tt)
+          fed first (outside_of v l) (outside_of w l) talk talk new told.Begun way.steps [] [] s s.stands refl refl begun_none feeds (subst (λ (x : Wanted). Fits told.Begun x) (sym e) tt)
           (subst (λ (x : Wanted). Made (Some own) told.Begun x way.steps) (sym e) way.are) refl (ap (taken_of told.Begun) e)
           (onward_world gives tells v w l way.steps way.went) refl
           (subst (λ (ts : List Token). HasAll (past w.hub) ts) (sym (feeds.keeps.0 refl ∙ none)) tt)
@@ -245,7 +287,7 @@ module _ {N C : Type 0} (gives : N → List ℕ → Ask → Came → N → Type 
   node_turn talk new want address request came h n n' m time l hands is feeds gave = λ first s.
       plain_fed first (outside_of (world_of h n m time) l) (outside_of (world_of h n' m time) l) talk new (told.Node came) (to_ask address (ask_of request))
       (Exchanged address (ask_of request) came ∷ []) [] [] s
-      (subst (λ (y : Want). Shows y s.want) is (shown first talk (outside_of (world_of h n m time) l) want s hands)) feeds tt refl refl refl (refl, refl)
+      (subst (λ (y : Want). Shows y s.want) is (shown first talk (outside_of (world_of h n m time) l) want s hands)) (node_none came) feeds tt refl refl refl (refl, refl)
       (onward_world gives tells (world_of h n m time) (world_of h n' m time) l (Exchanged address (ask_of request) came ∷ [])
       (went_exchange gives tells h n n' address (ask_of request) came m time gave)) refl refl
       (λ e. absurd (never (sym (one_last false s.steps (Exchanged address (ask_of request) came)) ∙ e))) (none_more s.bytes s.within)
@@ -255,7 +297,7 @@ module _ {N C : Type 0} (gives : N → List ℕ → Ask → Came → N → Type 
       Turned gives tells own talk (outside_of (world_of h n m time) l) None new (outside_of (world_of h n m' time') l)
   pause_turn talk new want ms h n m m' time time' l hands is feeds pauses = λ first s.
       plain_fed first (outside_of (world_of h n m time) l) (outside_of (world_of h n m' time') l) talk new told.Paused (to_pause ms) (Paused ms ∷ []) [] [] s
-      (subst (λ (y : Want). Shows y s.want) is (shown first talk (outside_of (world_of h n m time) l) want s hands)) feeds tt refl refl refl (refl, refl)
+      (subst (λ (y : Want). Shows y s.want) is (shown first talk (outside_of (world_of h n m time) l) want s hands)) pause_none feeds tt refl refl refl (refl, refl)
       (onward_world gives tells (world_of h n m time) (world_of h n m' time') l (Paused ms ∷ []) (went_pause gives tells h n ms m m' time time' pauses)) refl refl
       (λ e. absurd (never (sym (one_last false s.steps (Paused ms)) ∙ e))) (none_more s.bytes s.within)
 
@@ -269,6 +311,7 @@ module _ {N C : Type 0} (gives : N → List ℕ → Ask → Came → N → Type 
       let has = subst (λ (ts : List Token). HasAll (past o.world.hub) ts) takes.keeps s.has in
       may_make (past o.world.hub) (call_of call) (has_left (past o.world.hub) (call_tokens (call_of call)) (tokens mid) has)
       (laws.rightful talk (Some own) (call_of call) s.bytes s.steps s.written stands)
+      (stays_with call (leaves talk) (λ t e. takes.withdraws (Some own) s.want s.bytes s.steps s.written t s.stands e) s.stays)
 
 -- the step of a call that was not spent
 step_is : (answer : HubAnswer) (call : Call) (at : ℕ) → is_spent answer ≡ false → call_step answer call at ≡ Called call at (reply_of answer)
@@ -282,6 +325,7 @@ polls_newest H (Call.beat node name) has = tt
 polls_newest H (Call.drain node) has = tt
 polls_newest H (Call.remove node) has = tt
 polls_newest H (Call.enqueue choices) has = tt
+polls_newest H (Call.withdraw t) has = tt
 polls_newest H Call.dispatch has = tt
 polls_newest H (Call.bind r session caps) has = tt
 polls_newest H (Call.fail r why) has = tt
@@ -314,7 +358,7 @@ module _ {N C : Type 0} (gives : N → List ℕ → Ask → Came → N → Type 
       let all = subst (λ (ts : List Token). HasAll (past h) ts) takes.keeps s.has in
       let is_step = step_is answer (call_of call) at made.unspent in
       fed gives tells own first (outside_of (world_of h n m time) l) (outside_of (world_of k n m' time') l) talk mid new (told.Hub answer) (call_step answer (call_of call) at ∷ []) [] [] s t.1
-      takes.blames feeds
+      takes.blames takes.leaves_so (hub_none answer) feeds
       (subst (λ (x : Wanted). Fits (told.Hub answer) x) (sym t.0) (made.fits, made.keeps))
       (subst (λ (x : Wanted). Made (Some own) (told.Hub answer) x (call_step answer (call_of call) at ∷ [])) (sym t.0) (at, refl)) refl
       (ap (taken_of (told.Hub answer)) t.0)
@@ -322,13 +366,14 @@ module _ {N C : Type 0} (gives : N → List ℕ → Ask → Came → N → Type 
       (subst (λ (step : Step). Went gives tells (world_of h n m time) (step ∷ []) (world_of k n m' time')) (sym is_step)
       (went_call gives tells h k n (call_of call) at (reply_of answer) m m' time time' (record { config = made.serves.config; answers = made.serves.answers }) ticks))) refl
       (subst (λ (ts : List Token). HasAll (past k) ts) (sym (feeds.keeps.0 made.unspent))
-      (held_after newest starts early h k at is_legal (call_of call) answer (tokens mid) made (has_left (past h) (call_tokens (call_of call)) (tokens mid) all)
+      (held_after newest starts early h k at is_legal (call_of call) answer (tokens mid) (rightful gives tells own first talk mid (outside_of (world_of h n m time) l) call laws s takes) made (has_left (past h) (call_tokens (call_of call)) (tokens mid) all)
       (has_right (past h) (call_tokens (call_of call)) (tokens mid) all)
       (laws.left_beside talk (Some own) (call_of call) s.bytes s.steps s.written (tokens mid) stands takes.keeps)
       (none_at_enqueue talk mid call s.bytes s.steps s.written takes stands)))
       (λ e. subst (λ (x : ℕ). x < last_moment) is_now
-      (early_ahead newest starts early moments h.config (past h) at time.moment time'.moment (omega (arith, ticks.later, ticks.before)) is_legal (call_of call) (reply_of answer) (past k) made.serves.answers
-      (sym (ap is_early_poll is_step) ∙ (sym (one_last false s.steps (call_step answer (call_of call) at)) ∙ e))))
+      (early_ahead newest starts early moments h.config (past h) at time.moment time'.moment (omega (arith, ticks.later, ticks.before)) is_legal (call_of call) (reply_of answer) (past k)
+      (rightful gives tells own first talk mid (outside_of (world_of h n m time) l) call laws s takes) made.serves.answers
+      (sym (ap is_early_call is_step) ∙ (sym (one_last false s.steps (call_step answer (call_of call) at)) ∙ e))))
       (none_more gives tells own s.bytes s.within)
 
   -- ---- less is left
@@ -342,7 +387,8 @@ module _ {N C : Type 0} (gives : N → List ℕ → Ask → Came → N → Type 
       let has = has_left (past h) (call_tokens (call_of call)) (tokens mid) all in
       let forward : time.moment ≤ time'.moment = omega (arith, ticks.later, ticks.before) in
       let after = subst (λ (c : HubConfig). legal c (past k) ≡ true) made.serves.config legal_after in
-      let lowers = hub_lowers newest starts early moments h.config (past h) at time.moment time'.moment forward is_legal (call_of call) answer (past k) after made.fits
+      let lowers = hub_lowers newest starts early moments h.config (past h) at time.moment time'.moment forward is_legal (call_of call) answer (past k) after
+      (rightful gives tells own first talk mid (outside_of (world_of h n m time) l) call laws s takes) made.fits
       (polls_newest (past h) (call_of call) has) made.serves.answers in
       subst (λ (x : ℕ). work new (outlook (past k) time'.moment) < x) (takes.work_is (outlook (past h) time.moment))
       (feeds.less (outlook (past h) time.moment) (outlook (past k) time'.moment) lowers)

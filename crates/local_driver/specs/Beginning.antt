@@ -2,7 +2,7 @@
 use Rattle.std.specs.Prelude.{ℕ, Bool, true, false, List, [], ◌∷◌, ◌++◌, None, Some}
 use Rattle.grid_types.specs.Calls.{Call, Reply}
 use Rattle.node_client.specs.Steps.{Step, Called}
-use Rattle.conn_script.specs.Begin.{Expires, ExpireLacks}
+use Rattle.conn_script.specs.Begin.{Begins, BeginLacks, Expires, ExpireLacks}
 
 -- the driver's own nodes give a sign of life, in their order
 pub data Beaten : List ℕ → List Step → Type 0 where
@@ -14,3 +14,8 @@ pub data Beaten : List ℕ → List Step → Type 0 where
 abbrev pub ExpiresOrLacks : Bool → List Step → Type 0
 ExpiresOrLacks true steps = Expires steps
 ExpiresOrLacks false steps = ExpireLacks steps
+
+-- what goes before a request was done, or memory was wanted there
+abbrev pub BeginsOrLacks : List ℕ → Bool → List Step → Type 0
+BeginsOrLacks nodes true steps = Begins nodes steps
+BeginsOrLacks nodes false steps = BeginLacks nodes steps

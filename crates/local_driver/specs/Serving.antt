@@ -1,5 +1,5 @@
 -- A connection that is served by a hub of one thread, turn after turn.
-use Rattle.std.specs.Prelude.{◌≡◌, ℕ, ◌-◌, ◌<◌, ◌≤◌, true, List, [], ◌∷◌, length, Option, None, Some, Result}
+use Rattle.std.specs.Prelude.{◌≡◌, ℕ, ◌-◌, ◌<◌, ◌≤◌, true, false, List, [], ◌∷◌, length, Option, None, Some, Result}
 use Rattle.grid_types.specs.declared.entry.Entry.{Entry}
 use Rattle.grid_types.specs.Permitted.{last_moment}
 use Rattle.grid_types.specs.Tokens.{is_good_closing, is_good_reservation, is_good_ticket, reservation_of, ticket_of}
@@ -17,7 +17,7 @@ use Rattle.conn_script.specs.Pauses.{ends_early}
 use Rattle.conn_script.specs.Wanted.{Wanted}
 use Rattle.conn_script.specs.Work.{Outlook}
 use Rattle.hub_conn.specs.declared.talk.Talk.{Talk}
-use Rattle.hub_conn.specs.Talk.{Stands, blamed, is_fresh, result_cause, tokens}
+use Rattle.hub_conn.specs.Talk.{Stands, blamed, is_fresh, leaves, result_cause, tokens}
 use Rattle.hub_links.specs.Links.{RoseFor}
 use Rattle.local_driver.specs.Served.{HasServed, Onward, Outside}
 use Rattle.local_driver.specs.World.{World}
@@ -42,7 +42,8 @@ outlook_of w = record {
 
 module _ {N C : Type 0} (gives : N → List ℕ → Ask → Came → N → Type 0) (tells : C → Tick → ℕ → C → Type 0) (own : List ℕ) where
   -- The connection stands for what was read, done and written since `old`. Each token that it holds is good, what it blames has happened,
-  -- no more was read than is read on a connection, and behind a poll that was told to wait the last moment is ahead.
+  -- no more was read than is read on a connection, and behind a poll that was told to wait the last moment is ahead. Its client wasn't
+  -- told to have left.
   pub record Serving (old : Outside N C) (talk : Talk) (new : Outside N C) : Type 0 where
     pub want : Wanted
     pub bytes : List ℕ
@@ -51,6 +52,7 @@ module _ {N C : Type 0} (gives : N → List ℕ → Ask → Came → N → Type 
     pub stands : Stands talk (Some own) want bytes steps written
     pub onward : Onward gives tells old bytes steps written new
     pub fresh : is_fresh talk ≡ true
+    pub stays : leaves talk ≡ false
     pub has : HasAll (past new.world.hub) (tokens talk)
     pub early : ends_early steps ≡ true → new.world.time.moment < last_moment
     pub within : length bytes ≤ LIMIT

@@ -1,4 +1,4 @@
-//! The driver of a connection in one thread, over a hub of one thread.
+//! The driver of a connection in one thread, over a hub of one thread or another hub of one caller.
 #![tactic(auto)]
 
 mod before;
@@ -8,4 +8,4 @@ mod serving;
 pub use before::begin;
 pub use calls::make;
 pub use hub_conn::{ConnFault, End, Served};
-pub use serving::serve_local;
+pub use serving::{serve_by, serve_local};

@@ -23,4 +23,11 @@ returns-in-Some-clause-pops c = λ H held.
         closings_good = held.closings_good;
       };
       gone = gone_from old new t.request updates;
+      others = λ wanted all. record {
+        tickets = λ r want.
+            let split = not_both (nat_eq t.request r) (wanted.tickets r) want in
+            out_stays_of old new t.request r updates split.0 (all.tickets r split.1);
+        reservations = all.reservations;
+        closings = all.closings;
+      };
     }

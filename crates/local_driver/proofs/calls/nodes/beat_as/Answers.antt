@@ -2,14 +2,14 @@ use Rattle.std.proofs.Common.{refl, inr}
 use Rattle.std.specs.Prelude.{Some}
 use Rattle.grid_types.specs.Calls.{Call}
 use Rattle.conn_script.specs.declared.wants.HubAnswer.TheVariants as answers
-use Rattle.local_driver.proofs.CallLemmas.{made_roomed, made_not}
+use Rattle.local_driver.proofs.CallLemmas.{on_roomed, on_not_roomed}
 use Rattle.local_driver.proofs.calls.nodes.beat_as.Goals as goal
 
 pub returns-then-has_room : goal.returns-then-has_room
-returns-then-has_room c =
-    made_roomed c.args.hub.now c.has_room.new.hub (Call.beat c.args.node (Some c.args.name.now)) c.args.at.0 (answers.Beat c.beat_as.result) c.beat_as.new.self c.has_room.result c.if-has_room.true c.has_room.ensures
-    refl tt refl c.beat_as.ensures
+returns-then-has_room g c =
+    on_roomed g.H.OwnHub.own c.args.hub.now c.has_room.new.self c.beat_as.new.self (Call.beat c.args.node (Some c.args.name.now)) c.args.at.0 (answers.Beat c.in_ok-beat_as.field-0) c.has_room.result c.if-has_room.true c.has_room.ensures
+    refl tt refl c.in_ok-beat_as.ensures
 
 pub returns : goal.returns
-returns c =
-    made_not c.args.hub.now c.has_room.new.hub (Call.beat c.args.node (Some c.args.name.now)) c.args.at.0 answers.NoRoom c.has_room.result c.if-has_room.false c.has_room.ensures tt tt refl refl (inr (refl, refl))
+returns g c =
+    on_not_roomed g.H.OwnHub.own c.args.hub.now c.has_room.new.self (Call.beat c.args.node (Some c.args.name.now)) c.args.at.0 answers.NoRoom c.has_room.result c.if-has_room.false c.has_room.ensures tt tt refl refl (inr (refl, refl))

@@ -5,4 +5,4 @@ use Rattle.local_driver.proofs.CallLemmas.{made}
 use Rattle.local_driver.proofs.calls.sessions.lookup.Goals as goal
 
 pub returns : goal.returns
-returns c = λ at. made c.args.hub.now (Call.lookup c.args.session) at (answers.Lookup c.lookup.result) c.args.hub.now refl tt refl (c.lookup.ensures at)
+returns g c = λ at. made (g.H.OwnHub.own.shown c.args.hub.now) (Call.lookup c.args.session) at (answers.Lookup c.lookup.result) (g.H.OwnHub.own.shown c.args.hub.now) refl tt refl (c.lookup.ensures at)
