@@ -1,0 +1,120 @@
+//! A journal's file on a disk. To a hub it tells no bytes.
+ghost use Rattle.std.specs.Prelude.{◌≡◌, ℕ, ◌≤◌, None, OnOk, OnErr};
+ghost use Rattle.std.specs.Io.KnownBytes.{Appends};
+ghost use Rattle.grid_outside.specs.Counts.{HasCause, Rose};
+ghost use Rattle.journal_keeper.specs.Keeps.{Adds, AddsFront, AppendsFront};
+
+use crate::keeper::Keeper;
+use grid_outside::Failed;
+use std::fs::OpenFile;
+use std::io::Write;
+
+/// When appended bytes are made to outlast a loss of power.
+#[derive(Clone, Copy, Debug, PartialEq, Eq)]
+pub enum Syncing {
+    /// Within each append, which then takes as long as the disk does.
+    Each,
+    /// By calls of `sync` alone, or by nobody.
+    Apart,
+}
+
+/// A file that was opened to append. A piece goes out in one write, and in further ones what that did not take.
+#[derive(Drop)]
+pub struct FileKeeper<F: Write + OpenFile + Drop> {
+    file: F,
+    syncing: Syncing,
+    faults: u64,
+}
+
+impl<F: Write + OpenFile + Drop> FileKeeper<F> {
+    /// No fault is counted yet.
+    pub fn new(file: F, syncing: Syncing) -> Self
+        ensures { result.faults ≡ 0 }
+    {
+        FileKeeper {
+            file,
+            syncing,
+            faults: 0,
+        }
+    }
+
+    /// The file, of which a copy may be synced beside the appends.
+    pub fn file(&self) -> &F
+        ensures { result.now ≡ self.now.file }
+    {
+        &self.file
+    }
+
+    fn failed(&mut self) -> Failed
+        ensures file { self.new.file ≡ self.old.file }
+        ensures later { self.old.faults ≤ self.new.faults }
+        ensures rose { Rose self.old.faults self.new.faults }
+    {
+        self.faults = self.faults.saturating_add(1);
+        Failed
+    }
+
+    /// Writes all of the piece. A write that takes nothing of what is left has failed.
+    fn write_piece(&mut self, piece: &[u8]) -> Result<(), Failed>
+        ensures whole { OnOk result (Appends (F.contents self.old.file) (F.contents self.new.file) piece.now) }
+        ensures part { OnErr result
+            (AppendsFront (F.contents self.old.file) (F.contents self.new.file) piece.now) }
+        ensures cause { HasCause self.old.faults self.new.faults result }
+    {
+        let mut at = 0;
+        for _ in 0..u64::MAX {
+            let (_written, rest) = piece.split_at(at);
+            if rest.is_empty() {
+                return Ok(());
+            }
+            match self.file.write(rest) {
+                Ok(count) if count > 0 => at += count,
+                _ => return Err(self.failed()),
+            }
+        }
+        Err(self.failed())
+    }
+
+    fn sync_file(&mut self) -> Result<(), Failed>
+        ensures file { self.new.file ≡ self.old.file }
+        ensures cause { HasCause self.old.faults self.new.faults result }
+    {
+        match self.file.sync_data() {
+            Ok(()) => Ok(()),
+            Err(_) => Err(self.failed()),
+        }
+    }
+}
+
+impl<F: Write + OpenFile + Drop> Keeper for FileKeeper<F> {
+    ghost faults = { λ k. k.faults };
+
+    ghost kept = { λ k. None };
+
+    ghost synced = { λ k. 0 };
+
+    fn is_kept(&self) -> bool {
+        true
+    }
+
+    /// Where the file's writer tells its bytes, those of the piece stand behind them, or a front of those.
+    fn append(&mut self, piece: &[u8]) -> Result<(), Failed>
+        ensures whole { OnOk result (Adds None None piece.now) }
+        ensures part { OnErr result (AddsFront None None piece.now) }
+        ensures synced { 0 ≤ 0 }
+        ensures cause { HasCause self.old.faults self.new.faults result }
+        ensures written { OnOk result (Appends (F.contents self.old.file) (F.contents self.new.file) piece.now) }
+        ensures cut { OnErr result
+            (AppendsFront (F.contents self.old.file) (F.contents self.new.file) piece.now) }
+    {
+        self.write_piece(piece)?;
+        match self.syncing {
+            Syncing::Each => self.sync_file(),
+            Syncing::Apart => Ok(()),
+        }
+    }
+
+    fn sync(&mut self) -> Result<(), Failed> {
+        self.sync_file()
+    }
+}

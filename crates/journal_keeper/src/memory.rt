@@ -1,0 +1,108 @@
+//! A journal's file in memory.
+ghost use Rattle.std.specs.Prelude.{◌≡◌, ℕ, ◌≤◌, List, [], length, Some};
+ghost use Rattle.grid_outside.specs.Counts.{Rose};
+
+use crate::keeper::Keeper;
+use grid_outside::Failed;
+use std::alloc::Global;
+
+/// A file in memory. Its calls are numbered from 0, appends and syncs alike; each whose number is planned fails, and so does an
+/// append where memory is short. A planned append takes of its piece at most `part` bytes.
+#[derive(Drop)]
+pub struct MemKeeper {
+    bytes: Vec<u8>,
+    synced: usize,
+    planned: Vec<u64>,
+    part: usize,
+    calls: u64,
+    faults: u64,
+}
+
+impl MemKeeper {
+    /// An empty file.
+    pub fn new(alloc: Global, part: usize, planned: Vec<u64>) -> MemKeeper
+        ensures bytes { result.bytes.items ≡ [] }
+        ensures synced { result.synced ≡ 0 }
+        ensures part { result.part ≡ part }
+        ensures planned { result.planned.items ≡ planned.items }
+        ensures calls { result.calls ≡ 0 }
+        ensures faults { result.faults ≡ 0 }
+    {
+        MemKeeper {
+            bytes: Vec::new(alloc),
+            synced: 0,
+            planned,
+            part,
+            calls: 0,
+            faults: 0,
+        }
+    }
+
+    /// All bytes that stand there.
+    pub fn bytes(&self) -> &[u8]
+        ensures { result.now ≡ self.now.bytes.items }
+    {
+        self.bytes.as_slice()
+    }
+
+    /// How many of them were synced.
+    pub fn synced(&self) -> usize
+        ensures { result ≡ self.now.synced }
+    {
+        self.synced
+    }
+
+    /// Counts the call, and says whether it is to fail.
+    fn next_fails(&mut self) -> bool
+        ensures bytes { self.new.bytes ≡ self.old.bytes }
+        ensures faults { self.new.faults ≡ self.old.faults }
+        ensures synced { self.new.synced ≡ self.old.synced }
+    {
+        let call = self.calls;
+        self.calls = call.saturating_add(1);
+        self.planned.contains(&call)
+    }
+
+    fn failed(&mut self) -> Failed
+        ensures bytes { self.new.bytes ≡ self.old.bytes }
+        ensures synced { self.new.synced ≡ self.old.synced }
+        ensures later { self.old.faults ≤ self.new.faults }
+        ensures rose { Rose self.old.faults self.new.faults }
+    {
+        self.faults = self.faults.saturating_add(1);
+        Failed
+    }
+}
+
+impl Keeper for MemKeeper {
+    ghost faults = { λ k. k.faults };
+
+    ghost kept = { λ k. Some k.bytes.items };
+
+    ghost synced = { λ k. k.synced };
+
+    fn is_kept(&self) -> bool {
+        true
+    }
+
+    fn append(&mut self, piece: &[u8]) -> Result<(), Failed> {
+        if self.next_fails() {
+            let count = self.part.min(piece.len());
+            let (front, _rest) = piece.split_at(count);
+            let _ = self.bytes.extend_from_slice(front);
+            return Err(self.failed());
+        }
+        match self.bytes.extend_from_slice(piece) {
+            Ok(()) => Ok(()),
+            Err(_) => Err(self.failed()),
+        }
+    }
+
+    fn sync(&mut self) -> Result<(), Failed> {
+        if self.next_fails() {
+            return Err(self.failed());
+        }
+        self.synced = self.synced.max(self.bytes.len());
+        Ok(())
+    }
+}
