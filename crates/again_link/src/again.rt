@@ -1,5 +1,4 @@
 //! A link and what was read of it.
-ghost use Rattle.again_link.specs.Again.{EndsWith};
 
 use grid_outside::Link;
 
@@ -8,5 +7,4 @@ use grid_outside::Link;
 pub struct AgainLink<'a, L: Link> {
     pub(crate) inner: &'a mut L,
     pub(crate) again: &'a [u8],
-    ghost ends_so: { EndsWith (L.view inner.now).given again.now },
 }

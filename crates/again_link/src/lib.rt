@@ -6,6 +6,8 @@
 #![tactic(auto)]
 
 mod again;
+mod laws;
 mod link;
 
 pub use again::AgainLink;
+pub use laws::last_bytes_are_untold;

@@ -9,6 +9,8 @@
 
 mod naming;
 mod places;
+mod telling;
 
 pub use naming::{TEAM_HEADER, TeamName, team_of};
 pub use places::{Named, place_in};
+pub use telling::{NO_SUCH_TEAM, NOT_NAMED, texts_are};

@@ -4,7 +4,7 @@ use Rattle.wd_bodies.specs.declared.code.ErrorCode.TheVariants as code
 use Rattle.conn_script.specs.Responses.{bytes_of, failure}
 use Rattle.grid_types.specs.Config.{default_config}
 use Rattle.grid_teams.specs.Places.{names_by, place_of}
-use Rattle.grid_teams_top.specs.declared.telling.TheConstants.{NO_SUCH_TEAM}
+use Rattle.grid_teams.specs.declared.telling.TheConstants.{NO_SUCH_TEAM}
 use Rattle.grid_outside.specs.Told.{LinkView}
 use Rattle.grid_outside.specs.Memory.{clock_at}
 use Rattle.hub_core.specs.HubView.{past}

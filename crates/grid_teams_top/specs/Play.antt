@@ -1,5 +1,5 @@
 -- Teams that play in memory, and the blocks of bytes that are served for them.
-use Rattle.std.specs.Prelude.{◌≡◌, ℕ, zero, suc, false, true, List, [], ◌∷◌, Option, None, Some, Ok, codes, slice_get}
+use Rattle.std.specs.Prelude.{◌≡◌, ℕ, zero, suc, false, true, List, [], ◌∷◌, Option, None, Some, Ok, slice_get}
 use Rattle.std.specs.Borrow.{Bor}
 use Rattle.http_frames.specs.declared.frames.TheConstants.{LIMITS}
 use Rattle.grid_types.specs.Config.{default_config}
@@ -16,7 +16,7 @@ use Rattle.grid_teams.specs.Places.{names_by, place_of}
 use Rattle.grid_teams.specs.declared.naming.TeamName.{TeamName}
 use Rattle.grid_teams.specs.declared.naming.TeamName.TheVariants as team
 use Rattle.team_words.specs.declared.team_play.TeamPlay.{TeamPlay}
-use Rattle.grid_teams_top.specs.declared.telling.TheConstants.{NOT_NAMED, NO_SUCH_TEAM}
+use Rattle.grid_teams.specs.declared.telling.TheConstants.{NOT_NAMED, NO_SUCH_TEAM}
 use Rattle.grid_teams_top.specs.Apart.{AreApart, RunsAlone}
 
 -- ---- teams
@@ -83,8 +83,3 @@ TeamsRunAlone = (teams : List TeamPlay) → RunsAlone (Serves teams) (λ (b : Bl
 
 abbrev pub TeamsAreApart : Type 0
 TeamsAreApart = (teams : List TeamPlay) → AreApart (Serves teams) (λ (b : Block). b.place) (Unserved (names_of teams))
-
--- the texts that are told a client without a team
-pub record TextsAre : Type 0 where
-  pub not_named : NOT_NAMED.now ≡ codes "no team is named"
-  pub no_such_team : NO_SUCH_TEAM.now ≡ codes "no team has this name"

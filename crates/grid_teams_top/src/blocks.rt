@@ -9,10 +9,9 @@ ghost use Rattle.grid_teams_top.specs.Refusals.{IsAnswer};
 
 use crate::heads::feed_head;
 use crate::playing::{MOST_BLOCK_BYTES, PlayingTeam, serve_at};
-use crate::telling::{NO_SUCH_TEAM, NOT_NAMED};
 use conn_script::responses::failure;
 use conn_script::{fixed_limits as read_limits, refusal};
-use grid_teams::{TeamName, place_in, team_of};
+use grid_teams::{NO_SUCH_TEAM, NOT_NAMED, TeamName, place_in, team_of};
 use grid_types::{Bytes, NoMemory};
 use http_frames::{
     FrameReader, LIMITS, ReaderStep, fixed_limits, one_head, one_reading, refused_heads_stay, stays,

@@ -1,5 +1,5 @@
 //! What the definitions say among themselves. The functions do nothing: their contracts are the laws.
-ghost use Rattle.grid_teams_top.specs.Play.{TeamsAreApart, TeamsRunAlone, TextsAre};
+ghost use Rattle.grid_teams_top.specs.Play.{TeamsAreApart, TeamsRunAlone};
 
 use grid_play::one_talk;
 
@@ -13,8 +13,3 @@ pub fn teams_are_apart()
     // A law of what lies below, which does nothing either.
     one_talk();
 }
-
-/// The texts behind the names of messages, since definitions cite the names.
-pub fn texts_are()
-    ensures { TextsAre }
-{}

@@ -1,4 +1,4 @@
-//! Teams apart from each other: blocks of bytes that are served for teams in memory, and connections for teams with shared hubs.
+//! Teams apart from each other: blocks of bytes that are served for teams in memory.
 //!
 //! Choices that concern this crate alone:
 //!
@@ -13,11 +13,9 @@ mod blocks;
 mod heads;
 mod laws;
 mod playing;
-mod telling;
 
 pub use blocks::{serve_block, serve_blocks};
 pub use heads::feed_head;
-pub use laws::{teams_are_apart, texts_are};
+pub use laws::teams_are_apart;
 pub use playing::{MOST_BLOCK_BYTES, PlayingTeam, start};
 pub use team_words::TeamPlay;
-pub use telling::{NO_SUCH_TEAM, NOT_NAMED};

@@ -1,0 +1,6 @@
+pub mod LinkLemmas
+pub mod HeadLemmas
+pub mod TeamLemmas
+pub mod UnservedLemmas
+pub mod ServedLemmas
+pub mod HandingLemmas
