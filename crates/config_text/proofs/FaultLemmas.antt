@@ -4,9 +4,9 @@ use Rattle.std.specs.Prelude.{IsUtf8}
 use Rattle.toml.specs.Data.{Members}
 use Rattle.toml.specs.Parse.{parse_document}
 use Rattle.config_text.specs.declared.reading.TheConstants.{MOST_TEXT_BYTES}
-use Rattle.config_text.specs.Rows.{Row}
-use Rattle.config_text.specs.declared.fault.ConfigFault.{ConfigFault}
-use Rattle.config_text.specs.declared.fault.ConfigFault.TheVariants as fault
+use Rattle.config_keys.specs.Rows.{Row}
+use Rattle.config_keys.specs.declared.fault.ConfigFault.{ConfigFault}
+use Rattle.config_keys.specs.declared.fault.ConfigFault.TheVariants as fault
 use Rattle.config_text.specs.Configured.{IsFault, Says, fault_in, first, is_in_order}
 
 -- a fault in front is the first

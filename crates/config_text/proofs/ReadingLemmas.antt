@@ -6,13 +6,14 @@ use Rattle.std.specs.Cmp.Lexicographic.{slice_cmp}
 use Rattle.std.specs.Ordering.{nat_cmp, match_ordering}
 use Rattle.std.specs.Prelude.{option_and_then}
 use Rattle.toml.specs.Data.{Data, string, integer, float, boolean, datetime, array, table, as_table, get, get_member, Members, no_members, member}
-use Rattle.config_text.specs.declared.fault.ConfigFault.{ConfigFault}
-use Rattle.config_text.specs.declared.fault.ConfigFault.TheVariants as fault
+use Rattle.config_keys.specs.declared.fault.ConfigFault.{ConfigFault}
+use Rattle.config_keys.specs.declared.fault.ConfigFault.TheVariants as fault
 use Rattle.config_text.specs.declared.reading.TheConstants.{MOST_TEXT_BYTES}
-use Rattle.config_text.specs.declared.rows.Kind.{Kind}
-use Rattle.config_text.specs.Rows.{Row, has_section, kind_at}
-use Rattle.config_text.specs.Values.{word_for}
-use Rattle.config_text.specs.Configured.{first, misfit, value_fault, keys_fault, table_fault, section_fault, fault_in, value_at, words_in, Spells, HasFault, HasWords, OneReading, IsTaken}
+use Rattle.config_keys.specs.declared.rows.Kind.{Kind}
+use Rattle.config_keys.specs.Rows.{Row, has_section, kind_at}
+use Rattle.config_keys.specs.Values.{word_for}
+use Rattle.config_keys.specs.Words.{value_at, words_in}
+use Rattle.config_text.specs.Configured.{first, misfit, value_fault, keys_fault, table_fault, section_fault, fault_in, Spells, HasFault, HasWords, OneReading, IsTaken}
 
 -- ---- one reading
 

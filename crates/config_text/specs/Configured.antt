@@ -1,15 +1,16 @@
 -- What a document says, and why it says nothing.
-use Rattle.std.specs.Prelude.{◌≡◌, ◌<◌, ◌≤◌, ◌&&◌, ℕ, Bool, true, false, List, [], ◌∷◌, ◌++◌}
-use Rattle.std.specs.Prelude.{length, Option, None, Some, option_and_then, Result, Ok, Err, IsUtf8}
+use Rattle.std.specs.Prelude.{◌≡◌, ◌<◌, ◌≤◌, ◌&&◌, ℕ, Bool, true, false, List, []}
+use Rattle.std.specs.Prelude.{length, Option, None, Some, Result, Ok, Err, IsUtf8}
 use Rattle.std.specs.Prelude.{if◌then◌else◌}
-use Rattle.toml.specs.Data.{Data, as_table, get, get_member, is_before, Members, no_members, member}
+use Rattle.toml.specs.Data.{Data, as_table, is_before, Members, no_members, member}
 use Rattle.toml.specs.Parse.{parse_document}
-use Rattle.config_text.specs.declared.fault.ConfigFault.{ConfigFault}
-use Rattle.config_text.specs.declared.fault.ConfigFault.TheVariants as fault
+use Rattle.config_keys.specs.declared.fault.ConfigFault.{ConfigFault}
+use Rattle.config_keys.specs.declared.fault.ConfigFault.TheVariants as fault
+use Rattle.config_keys.specs.declared.rows.Kind.{Kind}
+use Rattle.config_keys.specs.Rows.{Row, has_section, kind_at}
+use Rattle.config_keys.specs.Values.{word_for}
+use Rattle.config_keys.specs.Words.{value_at, words_in}
 use Rattle.config_text.specs.declared.reading.TheConstants.{MOST_TEXT_BYTES}
-use Rattle.config_text.specs.declared.rows.Kind.{Kind}
-use Rattle.config_text.specs.Rows.{Row, has_section, kind_at}
-use Rattle.config_text.specs.Values.{word_for}
 
 -- ---- faults
 
@@ -52,26 +53,6 @@ IsFault fault.TooLong found = ⊥
 IsFault fault.NotToml found = ⊥
 IsFault (fault.UnknownKey section key) found = found ≡ Some (fault.UnknownKey section key)
 IsFault (fault.WrongValue section key) found = found ≡ Some (fault.WrongValue section key)
-
--- ---- words
-
--- what stands for a key of a section
-abbrev pub value_at : Members → List ℕ → List ℕ → Option Data
-value_at document section key = option_and_then (get key) (get_member section document)
-
-abbrev pub two_words : List ℕ → Option (List ℕ) → List (List ℕ)
-two_words option None = []
-two_words option (Some text) = option ∷ text ∷ []
-
--- the option of a row, and the value behind it, where its key is there
-abbrev pub words_of : Row → Option Data → List (List ℕ)
-words_of r None = []
-words_of r (Some d) = two_words r.option (word_for r.takes d)
-
--- those of all rows, in the table's order
-abbrev pub words_in : List Row → Members → List (List ℕ)
-words_in [] document = []
-words_in (r ∷ rows) document = words_of r (value_at document r.section r.key) ++ words_in rows document
 
 -- ---- a text
 

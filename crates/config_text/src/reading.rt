@@ -1,13 +1,11 @@
 //! The words of a program that a text of TOML stands for.
 ghost use Rattle.std.specs.Prelude.{◌≡◌, map};
 ghost use Rattle.config_text.specs.Configured.{Says};
-ghost use Rattle.config_text.specs.Rows.{attach_rows, row_told, rows_of};
+ghost use Rattle.config_keys.specs.Rows.{attach_rows, row_told, rows_of};
 
 use crate::checking::check;
-use crate::fault::ConfigFault;
 use crate::ordered::is_in_order;
-use crate::rows::{Mode, Row, attach_rows, rows_of};
-use crate::words::{WordList, put_all};
+use config_keys::{ConfigFault, Mode, Row, WordList, attach_rows, rows_of, words_in};
 use std::alloc::Global;
 
 /// The most bytes of a configuration.
@@ -33,9 +31,7 @@ fn words_by(alloc: Global, rows: &[Row], text: &[u8]) -> Result<WordList, Config
     if let Err(fault) = check(alloc, rows, &document) {
         return Err(fault);
     }
-    let mut words = WordList::new(alloc);
-    put_all(alloc, rows, &document, &mut words)?;
-    Ok(words)
+    Ok(words_in(alloc, rows, &document)?)
 }
 
 /// The words of the hub's or the node's program that the text stands for: for each row of the program's table, in

@@ -1,7 +1,7 @@
 -- That words name one program at most.
-use Rattle.std.proofs.Common.{◌≡◌, ℕ, List, [], ◌∷◌, length, get_or, refl, sym, ap, ◌∙◌, arith}
-use Rattle.config_text.specs.declared.rows.Mode.{Mode}
-use Rattle.config_text.specs.declared.rows.Mode.TheVariants as mode
+use Rattle.std.proofs.Common.{◌≡◌, ℕ, List, [], length, get_or, refl, sym, ap, ◌∙◌, arith}
+use Rattle.config_keys.specs.declared.rows.Mode.{Mode}
+use Rattle.config_keys.specs.declared.rows.Mode.TheVariants as mode
 use Rattle.grid_config.specs.Servers.{IsNamed}
 
 -- how many bytes the first word has

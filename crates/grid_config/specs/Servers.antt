@@ -1,12 +1,12 @@
 -- What the status of a hub's or a node's program stands for.
-use Rattle.std.specs.Prelude.{◌≡◌, ◌≤◌, ◌⊎◌, ℕ, List, [], ◌∷◌, Some, codes}
-use Rattle.config_text.specs.declared.rows.Mode.{Mode}
-use Rattle.config_text.specs.declared.rows.Mode.TheVariants as mode
+use Rattle.std.specs.Prelude.{◌≡◌, ◌≤◌, ◌⊎◌, ℕ, List, [], ◌∷◌, Some, codes, IfSome, IsSome}
+use Rattle.config_keys.specs.declared.rows.Mode.{Mode}
+use Rattle.config_keys.specs.declared.rows.Mode.TheVariants as mode
 use Rattle.grid_outside.specs.Counts.{Rose}
 use Rattle.grid_outside.specs.Told.{DoorView}
-use Rattle.server_words.specs.HubOptions.{hub_command, hub_said}
+use Rattle.server_words.specs.Hosts.{IsHostText, TellsHost, host_said}
+use Rattle.server_words.specs.HubOptions.{hub_said}
 use Rattle.server_words.specs.NodeOptions.{FitsNode, node_said}
-use Rattle.server_words.specs.Options.{IsTaken}
 
 -- the one word that names the program
 abbrev pub IsNamed : List (List ℕ) → Mode → Type 0
@@ -19,13 +19,24 @@ NameOne words = (m : Mode) × IsNamed words m
 
 -- the program takes these words
 abbrev pub Takes : Mode → List (List ℕ) → Type 0
-Takes mode.Hub words = IsTaken hub_command words
+Takes mode.Hub words = TellsHost words
 Takes mode.Node words = FitsNode words
 
 -- the port that the words name, or the program's own where they name none
 abbrev pub port_said : Mode → List (List ℕ) → ℕ
 port_said mode.Hub words = (hub_said words).port
 port_said mode.Node words = (node_said words).port
+
+-- the door was set to listen at the address that the words write
+abbrev pub IsSetToHost : List (List ℕ) → DoorView → Type 0
+IsSetToHost words new = IfSome new.host (IsHostText (host_said words)) × IsSome new.host
+
+-- The hub's door is set to the address of its words, but where the status is 2 or 5: then it may
+-- stay as it was. A node has no word for an address, and its contract says nothing of one.
+abbrev pub MaySetHost : Mode → List (List ℕ) → ℕ → DoorView → DoorView → Type 0
+MaySetHost mode.Hub words status old new =
+    (((status ≡ 2) ⊎ (status ≡ 5)) × (new.host ≡ old.host)) ⊎ IsSetToHost words new
+MaySetHost mode.Node words status old new = Unit {0}
 
 -- how the program may end for these words, by its own contract: its status, and what its door told
 -- before and after
@@ -39,4 +50,5 @@ pub record MayServe (m : Mode) (words : List (List ℕ)) (status : ℕ) (old new
   pub ends_later : old.ends ≤ new.ends
   pub faults_later : old.faults ≤ new.faults
   pub bound : (new.bound ≡ old.bound) ⊎ (new.bound ≡ Some (port_said m words))
+  pub host : MaySetHost m words status old new
   pub statuses : (status ≡ 0) ⊎ ((status ≡ 2) ⊎ ((status ≡ 3) ⊎ (status ≡ 5)))

@@ -1,8 +1,8 @@
 //! A driver behind a hub, by a configuration.
 ghost use Rattle.std.specs.Prelude.{◌≡◌, ◌⊎◌, ℕ, List, Result};
 ghost use Rattle.config_text.specs.Configured.{Says};
-ghost use Rattle.config_text.specs.Rows.{attach_rows};
-ghost use Rattle.config_text.specs.declared.fault.ConfigFault.{ConfigFault};
+ghost use Rattle.config_keys.specs.Rows.{attach_rows};
+ghost use Rattle.config_keys.specs.declared.fault.ConfigFault.{ConfigFault};
 ghost use Rattle.grid_outside.specs.Counts.{Rose};
 ghost use Rattle.grid_config.specs.Driver.{HasLooked, MayAttach, refusal_status};
 ghost use Rattle.grid_config.specs.Input.{input_of};

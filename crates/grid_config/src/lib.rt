@@ -15,8 +15,7 @@ mod statuses;
 mod top;
 
 pub use config_text::{
-    ConfigFault, MOST_TEXT_BYTES, Mode, WordList, attach_config_reason, attach_config_words,
-    config_reason, config_words,
+    ConfigFault, MOST_TEXT_BYTES, Mode, WordList, attach_config_words, config_words,
 };
 pub use driver::attach_config_main;
 pub use kept::KeptInput;

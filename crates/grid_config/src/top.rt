@@ -1,9 +1,9 @@
 //! Hub and node by a configuration.
 ghost use Rattle.std.specs.Prelude.{◌≡◌, ◌↔◌, ◌⊎◌, ℕ, List, Result, IfSome, IfNone};
 ghost use Rattle.config_text.specs.Configured.{Says};
-ghost use Rattle.config_text.specs.Rows.{rows_of};
-ghost use Rattle.config_text.specs.declared.fault.ConfigFault.{ConfigFault};
-ghost use Rattle.config_text.specs.declared.rows.Mode.{Mode};
+ghost use Rattle.config_keys.specs.Rows.{rows_of};
+ghost use Rattle.config_keys.specs.declared.fault.ConfigFault.{ConfigFault};
+ghost use Rattle.config_keys.specs.declared.rows.Mode.{Mode};
 ghost use Rattle.grid_outside.specs.Counts.{Rose};
 ghost use Rattle.grid_config.specs.Input.{input_of};
 ghost use Rattle.grid_config.specs.Ran.{Ends, Ran};

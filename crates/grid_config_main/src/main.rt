@@ -1,13 +1,16 @@
 //! A hub, a node, or a driver behind a hub, by a configuration on standard input.
 #![tactic(auto)]
 
+use config_keys::{Row, attach_rows, reason_of, rows_of};
 use grid_config::{
-    KeptInput, Mode, attach_config_main, attach_config_reason, config_main, config_reason,
+    ConfigFault, KeptInput, Mode, WordList, attach_config_main, attach_config_words, config_main,
+    config_words,
 };
 use grid_console::{Asked, NoWords, ToldBind, ToldHub, ToldNodes, words};
 use grid_outside::StandardInput;
 use grid_sockets::{MachineClock, TcpDoor, TcpNodes};
 use grid_types::Text;
+use server_words::{hub_reason, node_reason};
 use std::alloc::Global;
 use std::process::ExitCode;
 
@@ -25,6 +28,9 @@ FILE is a configuration in TOML
 
 /// Other words than one program's name.
 const OTHER_WORDS: u8 = 8;
+
+/// The program does not take what the text says.
+const REFUSED: u8 = 2;
 
 /// The text is no configuration.
 const FAULTY: u8 = 9;
@@ -53,17 +59,32 @@ fn run_attach(rt: HostRuntime, input: &mut Input) -> u8 {
     attach_config_main(rt.alloc(), input, &mut nodes, &mut clock, u64::MAX)
 }
 
+/// What the text says to the program of this name, and the keys that it has.
+fn said(alloc: Global, word: &str, text: &[u8]) -> (Result<WordList, ConfigFault>, &'static [Row]) {
+    match word {
+        "attach" => (attach_config_words(alloc, text), attach_rows()),
+        "node" => (config_words(alloc, Mode::Node, text), rows_of(Mode::Node)),
+        _ => (config_words(alloc, Mode::Hub, text), rows_of(Mode::Hub)),
+    }
+}
+
+/// What the program of this name does not take: the text's fault, or an address that is none.
+fn reason(alloc: Global, word: &str, text: &[u8]) -> Option<String> {
+    let (said, rows) = said(alloc, word, text);
+    match (said, word) {
+        (Err(fault), _) => reason_of(alloc, rows, text, &fault),
+        (Ok(words), "hub") => hub_reason(alloc, words.words()),
+        (Ok(words), "node") => node_reason(alloc, words.words()),
+        _ => None,
+    }
+}
+
 /// Says what is wrong with the text. The status says that something is where this can't be written.
 fn explain(rt: HostRuntime, word: &str, input: &Input) {
     let Some(text) = input.kept() else {
         return;
     };
-    let reason = match word {
-        "attach" => attach_config_reason(rt.alloc(), text),
-        "node" => config_reason(rt.alloc(), Mode::Node, text),
-        _ => config_reason(rt.alloc(), Mode::Hub, text),
-    };
-    if let Some(reason) = reason {
+    if let Some(reason) = reason(rt.alloc(), word, text) {
         let _ = eprintln!(rt; "{NAME}: {reason}");
     }
 }
@@ -99,7 +120,7 @@ fn main(rt: HostRuntime) -> ExitCode {
                     config_main(&rt, alloc, words, &mut input, &mut door)
                 }
             };
-            if status == FAULTY {
+            if status == FAULTY || status == REFUSED {
                 explain(rt, word(words), &input);
             }
             status

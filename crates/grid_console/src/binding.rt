@@ -2,6 +2,7 @@
 ghost use Rattle.std.specs.Prelude.{◌≡◌, ◌≤◌};
 
 use grid_outside::{Door, Failed};
+use std::net::IpAddr;
 
 /// Does what another door does, and says whether it listens.
 #[derive(Drop)]
@@ -32,6 +33,10 @@ impl<R: Eprint + Drop, D: Door + Drop> Door for ToldBind<R, D> {
     type G = D::G;
 
     ghost view = { λ d. D.view d.door };
+
+    fn listen_at(&mut self, host: IpAddr) {
+        self.door.listen_at(host);
+    }
 
     fn bind(&mut self, port: u16) -> Result<(), Failed> {
         let bound = self.door.bind(port);

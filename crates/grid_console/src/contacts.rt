@@ -4,6 +4,7 @@ ghost use Rattle.std.specs.Prelude.{◌≡◌, ◌≤◌};
 use crate::nodes::ToldNodes;
 use grid_outside::{Door, Failed};
 use node_signs::{Contact, SERVED};
+use std::net::IpAddr;
 
 /// Does what another door does, and its exchanges with a hub are told of.
 #[derive(Drop)]
@@ -34,6 +35,10 @@ impl<R: Eprint + Copy + Send + Drop, D: Door + Drop> Door for ToldHub<R, D> {
     type G = D::G;
 
     ghost view = { λ d. D.view d.door };
+
+    fn listen_at(&mut self, host: IpAddr) {
+        self.door.listen_at(host);
+    }
 
     fn bind(&mut self, port: u16) -> Result<(), Failed> {
         self.door.bind(port)

@@ -5,7 +5,7 @@ use grid_console::{Asked, NoWords, ToldBind, words};
 use grid_sockets::TcpDoor;
 use grid_types::Text;
 use hub_server::hub_main;
-use server_words::{HUB_USAGE, WordsFault, hub_host, hub_reason};
+use server_words::{HUB_USAGE, hub_reason};
 use std::process::ExitCode;
 
 /// The words don't fit.
@@ -21,13 +21,6 @@ fn explain(rt: HostRuntime, words: &[Text]) {
     }
 }
 
-fn status_of(fault: WordsFault) -> u8 {
-    match fault {
-        WordsFault::Refused => REFUSED,
-        WordsFault::Memory => NO_MEMORY,
-    }
-}
-
 fn main(rt: HostRuntime) -> ExitCode {
     let status = match words(&rt) {
         Ok(words) => match Asked::of(words.as_slice()) {
@@ -36,13 +29,8 @@ fn main(rt: HostRuntime) -> ExitCode {
                 0
             }
             None => {
-                let status = match hub_host(rt.alloc(), words.as_slice()) {
-                    Ok(host) => {
-                        let mut door = ToldBind::new(rt, "grid_hub", TcpDoor::at(rt, host, None));
-                        hub_main(&rt, rt.alloc(), words.as_slice(), &mut door)
-                    }
-                    Err(fault) => status_of(fault),
-                };
+                let mut door = ToldBind::new(rt, "grid_hub", TcpDoor::new(rt, None));
+                let status = hub_main(&rt, rt.alloc(), words.as_slice(), &mut door);
                 if status == REFUSED {
                     explain(rt, words.as_slice());
                 }

@@ -1,1 +1,2 @@
-mod WaitedLemmas
+mod CrowdLemmas
+mod RunLemmas

@@ -1,156 +1,149 @@
-//! What runs beside the links: workers, again and again, and a ticker.
-ghost use Rattle.std.specs.Prelude.{◌≡◌, ◌≤◌, ◌⊎◌, All, vec_len};
+//! What runs beside the links: workers and tickers, on one thread.
+ghost use Rattle.std.specs.Prelude.{◌≡◌, ◌≤◌, ◌⊎◌, All, IfSome};
 ghost use Rattle.std.specs.Thread.{IsSync};
-ghost use Rattle.hub_cell.specs.Passes.{IsOf, spares_of};
+ghost use Rattle.hub_cell.specs.Passes.{IsOf};
 ghost use Rattle.grid_outside.specs.Counts.{Rose};
+ghost use Rattle.hub_server.specs.Hands.{IsHand};
 ghost use Rattle.hub_server.specs.Statuses.{HasRun};
 
+use crate::accepting::Accepts;
 use crate::handling::{serve_links, take_back};
-use grid_outside::{Clock, Door, NodeLink};
+use crate::hands::{Hand, go_on_all, keep_hand};
+use crate::looping::Post;
+use grid_outside::Gate;
 use hub_cell::{Pass, SharedHub};
-use hub_crew::{CrewFault, Tool, crew};
-use hub_workers::{WorkerEnd, ticker};
 use std::alloc::Global;
 use std::sync::Wait;
 use std::sync::atomic::{AtomicBool, Ordering};
 use std::thread::{Threads, join};
 
-/// How many turns each worker makes before it is looked whether the hub has ended.
-const TURNS: u64 = 64;
-
-/// The milliseconds until a crew that found no memory is tried again.
+/// The milliseconds until workers look again whether there is something to start.
 const PAUSE_MS: u64 = 15;
 
-/// Waits before the next try.
-fn pause_first<N: NodeLink + Drop, C: Clock + Drop>(tools: &mut [Tool<N, C>]) {
-    if let Some(tool) = tools.first_mut() {
-        tool.clock.pause(PAUSE_MS);
+/// At most so many places are told of at once.
+const READY: usize = 128;
+
+/// What the workers and the tickers work with: what they wait by, and a clock for each of them.
+#[derive(Drop)]
+pub(crate) struct House<G: Drop, C: Drop> {
+    pub(crate) gate: G,
+    pub(crate) workers: Vec<C>,
+    pub(crate) tickers: Vec<C>,
+    /// How long an exchange of a start may take, in milliseconds.
+    pub(crate) start_ms: u64,
+}
+
+/// A hand for each clock, as far as there are passes: workers where it is told how long an exchange of a start may take, else tickers.
+fn hire<G: Gate>(
+    hub: &SharedHub,
+    gate: &mut G,
+    passes: &mut Vec<Pass>,
+    clocks: Vec<G::C>,
+    start_ms: Option<u64>,
+    hands: &mut Vec<Hand<G::N, G::C>>,
+)
+    requires passes { All (IsOf hub.now) passes.old.items }
+    requires hands { All (IsHand hub.now G.N.NodeLine.state G.N.NodeLine.gives G.N.NodeLine.asks
+        G.C.Clock.gives G.C.Clock.view) hands.old.items }
+    ensures passes { All (IsOf hub.now) passes.new.items }
+    ensures hands { All (IsHand hub.now G.N.NodeLine.state G.N.NodeLine.gives G.N.NodeLine.asks
+        G.C.Clock.gives G.C.Clock.view) hands.new.items }
+{
+    for clock in clocks {
+        if let Some(pass) = passes.pop() {
+            let nodes = gate.nodes(hands.len());
+            keep_hand(hub, hands, Hand::hired(start_ms, pass, nodes, clock));
+        }
     }
 }
 
-/// Runs the crew again and again, until all else is done or the hub is spent.
-fn keep_crew<R: Threads + Wait + Sync, N: NodeLink + Send + Drop, C: Clock + Send + Drop>(
+/// Lets the hands do what they can do, again and again, until all else is done.
+fn keep_going<R: Wait, G: Gate>(
     rt: &R,
     alloc: Global,
     hub: &SharedHub,
-    mut pass: Pass,
-    mut tools: Vec<Tool<N, C>>,
+    gate: &mut G,
+    hands: &mut Vec<Hand<G::N, G::C>>,
+    ready: &mut Vec<usize>,
     done: &AtomicBool,
 )
-    requires own { IsOf hub.now pass }
-    requires spares { vec_len tools ≤ spares_of pass }
+    requires { All (IsHand hub.now G.N.NodeLine.state G.N.NodeLine.gives G.N.NodeLine.asks
+        G.C.Clock.gives G.C.Clock.view) hands.old.items }
 {
-    if tools.is_empty() {
+    for _ in rt.forever() {
+        if done.load(Ordering::SeqCst) {
+            return;
+        }
+        let soon = go_on_all(rt, alloc, hub, hands);
+        ready.clear();
+        gate.wait(if soon { 0 } else { PAUSE_MS }, ready);
+    }
+}
+
+/// The thread of the workers and the tickers.
+fn keep_house<R: Wait, G: Gate + Drop>(
+    rt: &R,
+    alloc: Global,
+    hub: &SharedHub,
+    mut passes: Vec<Pass>,
+    house: House<G, G::C>,
+    done: &AtomicBool,
+)
+    requires own { All (IsOf hub.now) passes.items }
+{
+    let House {
+        mut gate,
+        workers,
+        tickers,
+        start_ms,
+    } = house;
+    let Ok(mut ready) = Vec::with_capacity(alloc, READY) else {
         return;
-    }
-    for _ in rt.forever() {
-        if done.load(Ordering::SeqCst) {
-            return;
-        }
-        match crew(rt, alloc, hub, &mut pass, &mut tools, TURNS) {
-            Ok(()) => {}
-            Err(CrewFault::Spent(_)) => return,
-            Err(CrewFault::Memory) => pause_first(tools.as_mut_slice()),
-        }
-    }
-}
-
-/// Ticks again and again, until all else is done or the hub is spent.
-fn keep_ticking<R: Wait, N: NodeLink + Drop, C: Clock + Drop>(
-    rt: &R,
-    alloc: Global,
-    hub: &SharedHub,
-    mut pass: Pass,
-    mut tool: Tool<N, C>,
-    done: &AtomicBool,
-)
-    requires own { IsOf hub.now pass }
-{
-    for _ in rt.forever() {
-        if done.load(Ordering::SeqCst) {
-            return;
-        }
-        let end = ticker(
-            rt,
-            alloc,
-            hub,
-            &mut pass,
-            &mut tool.nodes,
-            &mut tool.clock,
-            1,
-        );
-        if let WorkerEnd::Spent(_) = end {
-            return;
-        }
-    }
+    };
+    let mut hands = Vec::new(alloc);
+    hire(hub, &mut gate, &mut passes, tickers, None, &mut hands);
+    hire(
+        hub,
+        &mut gate,
+        &mut passes,
+        workers,
+        Some(start_ms),
+        &mut hands,
+    );
+    keep_going(rt, alloc, hub, &mut gate, &mut hands, &mut ready, done);
 }
 
 /// Serves the links until the door is closed or fails, and says when that is done.
-fn serve_to_the_end<R: Threads + Wait + Sync, D: Door>(
+fn serve_to_the_end<R: Threads + Wait + Sync, G: Gate + Send + Drop, A: Accepts<G::L>>(
     rt: &R,
     alloc: Global,
     hub: &SharedHub,
     passes: Vec<Pass>,
+    posts: Vec<Post<G, G::C>>,
     done: &AtomicBool,
-    door: &mut D,
+    door: &mut A,
 ) -> u8
     requires own { All (IsOf hub.now) passes.items }
-    ensures { HasRun (D.view door.old) (D.view door.new) result }
+    ensures { HasRun (A.view door.old) (A.view door.new) result }
 {
-    let status = serve_links(rt, alloc, hub, passes, door);
+    let status = serve_links(rt, alloc, hub, passes, posts, door);
     done.store(true, Ordering::SeqCst);
     status
 }
 
-/// Serves the links beside a ticker, and ends once both have ended.
-fn serve_beside_ticker<R: Threads + Wait + Sync, D: Door>(
+/// Serves the links beside workers and tickers, and ends once all have ended.
+pub(crate) fn serve_beside_house<R: Threads + Wait + Sync, G: Gate + Send + Drop, A: Accepts<G::L>>(
     rt: &R,
     alloc: Global,
     hub: &SharedHub,
-    ticking: Pass,
-    tool: Tool<D::N, D::C>,
+    house_passes: Vec<Pass>,
+    house: House<G, G::C>,
     passes: Vec<Pass>,
-    done: &AtomicBool,
-    door: &mut D,
+    posts: Vec<Post<G, G::C>>,
+    door: &mut A,
 ) -> u8
-    requires own { IsOf hub.now ticking × All (IsOf hub.now) passes.items }
-    ensures { HasRun (D.view door.old) (D.view door.new) result }
-{
-    let lent = &mut *door;
-    let (_, (lent, status)) = join(
-        rt,
-        move ||
-            requires { IsOf hub.now ticking }
-        { keep_ticking(rt, alloc, hub, ticking, tool, done) },
-        move || -> (&mut D, u8)
-            requires { IsSync R.row × All (IsOf hub.now) passes.items }
-            ensures { (result.0.ghost_name ≡ lent.entry.ghost_name)
-                × HasRun (D.view lent.entry.now) (D.view result.0.now) result.1 }
-        {
-            let status = serve_to_the_end(rt, alloc, hub, passes, done, lent);
-            (lent, status)
-        },
-    );
-    // For the proof alone: the loan of the door ends here.
-    take_back(lent);
-    status
-}
-
-/// Serves the links beside workers and a ticker, and ends once all have ended.
-pub(crate) fn serve_beside_all<R: Threads + Wait + Sync, D: Door>(
-    rt: &R,
-    alloc: Global,
-    hub: &SharedHub,
-    first: Pass,
-    tools: Vec<Tool<D::N, D::C>>,
-    ticking: Pass,
-    tool: Tool<D::N, D::C>,
-    passes: Vec<Pass>,
-    door: &mut D,
-) -> u8
-    requires own { IsOf hub.now first × IsOf hub.now ticking × All (IsOf hub.now) passes.items }
-    requires spares { vec_len tools ≤ spares_of first }
-    ensures { HasRun (D.view door.old) (D.view door.new) result }
+    requires own { All (IsOf hub.now) house_passes.items × All (IsOf hub.now) passes.items }
+    ensures { HasRun (A.view door.old) (A.view door.new) result }
 {
     let flag = AtomicBool::new(false);
     let done = &flag;
@@ -158,14 +151,14 @@ pub(crate) fn serve_beside_all<R: Threads + Wait + Sync, D: Door>(
     let (_, (lent, status)) = join(
         rt,
         move ||
-            requires { IsSync R.row × IsOf hub.now first × (vec_len tools ≤ spares_of first) }
-        { keep_crew(rt, alloc, hub, first, tools, done) },
-        move || -> (&mut D, u8)
-            requires { IsSync R.row × IsOf hub.now ticking × All (IsOf hub.now) passes.items }
+            requires { IsSync R.row × All (IsOf hub.now) house_passes.items }
+        { keep_house(rt, alloc, hub, house_passes, house, done) },
+        move || -> (&mut A, u8)
+            requires { IsSync R.row × All (IsOf hub.now) passes.items }
             ensures { (result.0.ghost_name ≡ lent.entry.ghost_name)
-                × HasRun (D.view lent.entry.now) (D.view result.0.now) result.1 }
+                × HasRun (A.view lent.entry.now) (A.view result.0.now) result.1 }
         {
-            let status = serve_beside_ticker(rt, alloc, hub, ticking, tool, passes, done, lent);
+            let status = serve_to_the_end(rt, alloc, hub, passes, posts, done, lent);
             (lent, status)
         },
     );

@@ -50,6 +50,10 @@ module _ (rows : List Row) (fit : NumbersFit hub_command rows) where
   unfolding clap_on_literals
   workers_fit = fit (codes "workers") 0 64 refl refl
 
+  pub connections_fit : IfSome (first_of (codes "connections") rows) (IsSignedIn (pos 1) (pos 20_000))
+  unfolding clap_on_literals
+  connections_fit = fit (codes "connections") 1 20_000 refl refl
+
 module _ (rows : List Row) (fit : NumbersFit node_command rows) where
   pub node_port_fits : IfSome (first_of (codes "port") rows) (IsSignedIn (pos 1) (pos 65_535))
   unfolding clap_on_literals

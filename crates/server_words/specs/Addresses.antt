@@ -1,5 +1,5 @@
 -- The address of a hub or a driver, as it may be written: HOST:PORT, with `http://` in front or `/` behind.
-use Rattle.std.specs.Prelude.{◌&&◌, ◌||◌, ◌==◌, ◌-◌, ℕ, Bool, false, not, nat_le, nat_lt, List, [], ◌∷◌}
+use Rattle.std.specs.Prelude.{◌&&◌, ◌||◌, ◌==◌, ◌-◌, ◌+◌, ◌*◌, ℕ, Bool, false, not, nat_le, nat_lt, List, [], ◌∷◌}
 use Rattle.std.specs.Prelude.{length, take, slice_get, Option, None, Some, codes, if◌then◌else◌}
 use Rattle.std.specs.Char.{is_ascii_digit}
 use Rattle.std.specs.List.{list_all, list_any}
@@ -38,9 +38,18 @@ port_text (b ∷ text) = later_or b text (port_text text)
     later_or b text (Some port) = Some port
     later_or b text None = if b == 58 then Some text else None
 
--- one to five digits
+-- what one to five digits write; 0 where there are others than so many
+abbrev pub port_number : List ℕ → ℕ
+port_number (a ∷ []) = a - 48
+port_number (a ∷ b ∷ []) = (a - 48) * 10 + (b - 48)
+port_number (a ∷ b ∷ c ∷ []) = ((a - 48) * 10 + (b - 48)) * 10 + (c - 48)
+port_number (a ∷ b ∷ c ∷ d ∷ []) = (((a - 48) * 10 + (b - 48)) * 10 + (c - 48)) * 10 + (d - 48)
+port_number (a ∷ b ∷ c ∷ d ∷ e ∷ []) = ((((a - 48) * 10 + (b - 48)) * 10 + (c - 48)) * 10 + (d - 48)) * 10 + (e - 48)
+port_number other = 0
+
+-- the digits of a port of TCP, 1 to 65535
 abbrev pub is_port : List ℕ → Bool
-is_port text = nat_le 1 (length text) && nat_le (length text) 5 && list_all is_ascii_digit text
+is_port text = list_all is_ascii_digit text && nat_le 1 (port_number text) && nat_le (port_number text) 65_535
 
 -- a port, and something before its colon
 abbrev pub has_port : List ℕ → Option (List ℕ) → Bool

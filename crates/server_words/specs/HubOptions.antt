@@ -9,7 +9,7 @@ use Rattle.server_words.specs.declared.hub.HubWords.{HubWords}
 
 abbrev pub hub_command : App
 hub_command =
-    with_rule (with_rule (with_rule (with_rule (with_rule (with_rule (with_rule (with_rule
+    with_rule (with_rule (with_rule (with_rule (with_rule (with_rule (with_rule (with_rule (with_rule
     (bare (codes "grid_hub"))
     (text_of (codes "host")))
     (number_of (codes "port") 1 65_535))
@@ -18,7 +18,8 @@ hub_command =
     (truth_of (codes "reject-unsupported-caps")))
     (number_of (codes "queue-limit") 1 MOST_REQUESTS))
     (number_of (codes "handlers") 1 128))
-    (number_of (codes "workers") 0 64)
+    (number_of (codes "workers") 0 64))
+    (number_of (codes "connections") 1 20_000)
 
 -- the configuration that the words found tell; what they leave out is as by default
 abbrev pub config_told : List Row → HubConfig
@@ -35,6 +36,7 @@ hub_told rows = record {
   config = config_told rows;
   handlers = number_or 64 (first_of (codes "handlers") rows);
   workers = number_or 4 (first_of (codes "workers") rows);
+  connections = number_or 10_000 (first_of (codes "connections") rows);
 }
 
 -- counts between the limits of their options
@@ -42,6 +44,8 @@ pub record AreWithin (words : HubWords) : Type 0 where
   pub some_handler : 1 ≤ words.handlers
   pub handlers : words.handlers ≤ 128
   pub workers : words.workers ≤ 64
+  pub some_connection : 1 ≤ words.connections
+  pub connections : words.connections ≤ 20_000
 
 -- what the words of the hub's program say
 abbrev pub hub_said : List Text → HubWords

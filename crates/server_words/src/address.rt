@@ -1,8 +1,8 @@
 //! The address of a hub or a driver, as it may be written.
-ghost use Rattle.std.specs.Prelude.{◌≡◌, ◌==◌, IfNone, IfSome, false, option_map, true};
+ghost use Rattle.std.specs.Prelude.{◌≡◌, ◌==◌, ◌-◌, ◌≤◌, IfNone, IfSome, false, option_map, true};
 ghost use Rattle.std.specs.Char.{is_ascii_digit};
 ghost use Rattle.std.specs.List.{list_all, list_any};
-ghost use Rattle.server_words.specs.Addresses.{bare_address, behind, ends_in_slash, has_port, is_host_and_port, is_port, is_reachable, port_text, without_scheme, without_slash};
+ghost use Rattle.server_words.specs.Addresses.{bare_address, behind, ends_in_slash, has_port, is_host_and_port, is_port, is_reachable, port_number, port_text, without_scheme, without_slash};
 
 use grid_types::NodeAddress;
 
@@ -69,11 +69,36 @@ fn are_digits(text: &[u8]) -> bool
     text.iter().all(|b| b.is_ascii_digit())
 }
 
-/// One to five digits.
+/// What a digit writes.
+fn digit(byte: u8) -> u32
+    ensures value { result ≡ byte - 48 }
+    ensures few { result ≤ 207 }
+{
+    u32::from(byte.saturating_sub(b'0'))
+}
+
+/// What one to five digits write; 0 where there are others than so many.
+fn port_number(text: &[u8]) -> u32
+    ensures { result ≡ port_number text.now }
+{
+    match text {
+        [a] => digit(*a),
+        [a, b] => digit(*a) * 10 + digit(*b),
+        [a, b, c] => (digit(*a) * 10 + digit(*b)) * 10 + digit(*c),
+        [a, b, c, d] => ((digit(*a) * 10 + digit(*b)) * 10 + digit(*c)) * 10 + digit(*d),
+        [a, b, c, d, e] => {
+            (((digit(*a) * 10 + digit(*b)) * 10 + digit(*c)) * 10 + digit(*d)) * 10 + digit(*e)
+        }
+        _ => 0,
+    }
+}
+
+/// The digits of a port of TCP, 1 to 65535.
 fn is_port(text: &[u8]) -> bool
     ensures { result ≡ is_port text.now }
 {
-    !text.is_empty() && text.len() <= 5 && are_digits(text)
+    let number = port_number(text);
+    are_digits(text) && 1 <= number && number <= 65_535
 }
 
 fn has_slash(text: &[u8]) -> bool

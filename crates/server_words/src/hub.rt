@@ -24,8 +24,9 @@ usage: grid_hub [OPTION VALUE]...
   --session-timeout SECONDS               an idle session ends, 10 to 86400 (300)
   --reject-unsupported-caps true|false    refuse what no node has (false)
   --queue-limit COUNT                     requests that may wait, 1 to 10000 (10000)
-  --handlers COUNT                        connections at once, 1 to 128 (64)
+  --handlers COUNT                        threads for connections, 1 to 128 (64)
   --workers COUNT                         starts of sessions at once, 0 to 64 (4)
+  --connections COUNT                     connections at once, 1 to 20000 (10000)
 ";
 
 /// What the words of the hub's program say.
@@ -35,10 +36,12 @@ pub struct HubWords {
     pub port: u16,
     /// What the hub is set up with.
     pub config: HubConfig,
-    /// How many connections are served beside each other.
+    /// The most threads that drive connections.
     pub handlers: u32,
     /// How many threads start sessions beside the connections.
     pub workers: u32,
+    /// The most connections that are served at once.
+    pub connections: u32,
 }
 
 pub(crate) fn command<'a>(alloc: Global) -> Result<Command<'a>, AllocError>
@@ -53,7 +56,8 @@ pub(crate) fn command<'a>(alloc: Global) -> Result<Command<'a>, AllocError>
     let five = four.arg(number_option(alloc, "queue-limit", 1, MOST_REQUESTS))?;
     let six = five.arg(number_option(alloc, "handlers", 1, 128))?;
     let seven = six.arg(number_option(alloc, "workers", 0, 64))?;
-    Ok(seven)
+    let eight = seven.arg(number_option(alloc, "connections", 1, 20_000))?;
+    Ok(eight)
 }
 
 fn config(matches: &ArgMatches<'_>) -> HubConfig
@@ -81,6 +85,7 @@ fn told(matches: &ArgMatches<'_>) -> HubWords
         config: config(matches),
         handlers: number(matches, "handlers", 64),
         workers: number(matches, "workers", 4),
+        connections: number(matches, "connections", 10_000),
     }
 }
 

@@ -1,9 +1,9 @@
-use Rattle.std.proofs.Common.{◌≡◌, ℕ, List, subst}
-use Rattle.config_text.specs.Rows.{rows_of}
-use Rattle.config_text.specs.declared.rows.Mode.{Mode}
+use Rattle.std.proofs.Common.{◌≡◌, subst}
+use Rattle.config_keys.specs.Rows.{rows_of}
+use Rattle.config_keys.specs.declared.rows.Mode.{Mode}
 use Rattle.grid_config.specs.Input.{input_of}
 use Rattle.grid_config.specs.Ran.{Ran}
-use Rattle.grid_config.specs.Servers.{IsNamed, MayServe}
+use Rattle.grid_config.specs.Servers.{MayServe}
 use Rattle.grid_config.proofs.NameLemmas.{one_name}
 use Rattle.grid_config.proofs.top.config_main.Goals as goal
 

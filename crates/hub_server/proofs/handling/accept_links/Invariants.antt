@@ -2,8 +2,8 @@ use Rattle.std.proofs.Common.{◌≤◌}
 use Rattle.hub_server.specs.Statuses.{NoneFell}
 use Rattle.hub_server.proofs.handling.accept_links.Given as goal
 
--- no count fell, and the door is bound where it was
+-- no count fell, and the door is set and bound where it was
 abbrev pub invariant-loop : goal.invariant-loop
 invariant-loop g l = record {
-  later : NoneFell (g.D.Door.view l.fn.door) (g.D.Door.view l.door);
+  later : NoneFell (g.A.Accepts.view l.fn.door) (g.A.Accepts.view l.door);
 }

@@ -11,4 +11,5 @@ returns c =
     let four = with_option _ _ c.in_ok-three.three c.in_ok-four.four c.truth_option.result three c.in_ok-four.ensures c.truth_option.ensures.local c.truth_option.ensures.rule in
     let five = with_option _ _ c.in_ok-four.four c.in_ok-five.five c.number_option-4.result four c.in_ok-five.ensures c.number_option-4.ensures.local c.number_option-4.ensures.rule in
     let six = with_option _ _ c.in_ok-five.five c.in_ok-six.six c.number_option-5.result five c.in_ok-six.ensures c.number_option-5.ensures.local c.number_option-5.ensures.rule in
-    with_option _ _ c.in_ok-six.six c.in_ok-seven.seven c.number_option-6.result six c.in_ok-seven.ensures c.number_option-6.ensures.local c.number_option-6.ensures.rule
+    let seven = with_option _ _ c.in_ok-six.six c.in_ok-seven.seven c.number_option-6.result six c.in_ok-seven.ensures c.number_option-6.ensures.local c.number_option-6.ensures.rule in
+    with_option _ _ c.in_ok-seven.seven c.in_ok-eight.eight c.number_option-7.result seven c.in_ok-eight.ensures c.number_option-7.ensures.local c.number_option-7.ensures.rule
