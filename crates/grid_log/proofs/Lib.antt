@@ -1,0 +1,5 @@
+mod StreamLemmas
+mod SumLemmas
+mod LineLemmas
+mod LogLemmas
+mod AsciiNames

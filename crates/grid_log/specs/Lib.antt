@@ -1,0 +1,7 @@
+pub mod Past
+pub mod Facts
+pub mod Events
+pub mod Recalls
+pub mod Logs
+pub mod Logging
+pub mod Words

@@ -1,0 +1,65 @@
+-- How the writing of a log ends.
+use Rattle.std.specs.Prelude.{◌≡◌, ℕ, List, ◌++◌, Option}
+use Rattle.grid_types.specs.declared.config.HubConfig.{HubConfig}
+use Rattle.grid_types.specs.declared.entry.Entry.{Entry}
+use Rattle.grid_outside.specs.Counts.{Rose}
+use Rattle.grid_outside.specs.Told.{Gains}
+use Rattle.journal_reader.specs.declared.reader.Ending.{Ending}
+use Rattle.journal_reader.specs.declared.reader.Ending.TheVariants as ending
+use Rattle.journal_reader.specs.Readings.{Told, HasBegun, HasEnded, IsCut, IsNone, told}
+use Rattle.grid_log.specs.declared.form.Form.{Form}
+use Rattle.grid_log.specs.Events.{log_of}
+
+-- what an input tells
+pub record Input : Type 0 where
+  pub given : Option (List ℕ)
+  pub ends : ℕ
+  pub faults : ℕ
+
+abbrev pub input_of : Option (List ℕ) → ℕ → ℕ → Input
+input_of given ends faults = record { given = given; ends = ends; faults = faults }
+
+-- what it tells a reader
+abbrev pub reading_of : Input → Told
+reading_of input = told input.given input.ends
+
+-- what an output tells
+pub record Output : Type 0 where
+  pub taken : Option (List ℕ)
+  pub faults : ℕ
+
+abbrev pub output_of : Option (List ℕ) → ℕ → Output
+output_of taken faults = record { taken = taken; faults = faults }
+
+-- a front of the bytes was taken
+pub record TookFront (old new : Option (List ℕ)) (bytes : List ℕ) : Type 0 where
+  pub front : List ℕ
+  pub unwritten : List ℕ
+  pub are : front ++ unwritten ≡ bytes
+  pub gains : Gains old new front
+
+-- the status that tells how a journal ended
+abbrev pub ending_status : Ending → ℕ
+ending_status ending.Whole = 0
+ending_status ending.Bad = 2
+ending_status ending.Cut = 3
+ending_status ending.Limit = 9
+
+-- a journal of this history was read, and perhaps more, and its log was written; or nothing was written
+pub data LoggedSoFar (form : Form) (old new : Input) (before after : Output) : Type 0 where
+  some_read : (c : HubConfig) (H : List Entry) → HasBegun (reading_of old) (reading_of new) c H →
+      Gains before.taken after.taken (log_of form H) → LoggedSoFar form old new before after
+  none_read : after.taken ≡ before.taken → LoggedSoFar form old new before after
+
+-- how the log of an input ends: the journal ended, and the log of its entries was written; there is no journal, or its head is cut
+-- off, and nothing was written; a read failed, or memory was wanted, and the log of entries that were read was written; or a write
+-- failed, and a front of such a log was written
+pub data LogEnds (form : Form) (old new : Input) (before after : Output) (status : ℕ) : Type 0 where
+  journal_ended : (c : HubConfig) (H : List Entry) (e : Ending) → HasEnded (reading_of old) (reading_of new) c H e →
+      status ≡ ending_status e → Gains before.taken after.taken (log_of form H) → LogEnds form old new before after status
+  no_journal : status ≡ 4 → IsNone (reading_of old) (reading_of new) → after.taken ≡ before.taken → LogEnds form old new before after status
+  head_cut : status ≡ 3 → IsCut (reading_of old) (reading_of new) → after.taken ≡ before.taken → LogEnds form old new before after status
+  read_failed : status ≡ 5 → Rose old.faults new.faults → LoggedSoFar form old new before after → LogEnds form old new before after status
+  write_failed : (c : HubConfig) (H : List Entry) → status ≡ 6 → Rose before.faults after.faults → HasBegun (reading_of old) (reading_of new) c H →
+      TookFront before.taken after.taken (log_of form H) → LogEnds form old new before after status
+  no_memory : status ≡ 7 → LoggedSoFar form old new before after → LogEnds form old new before after status

@@ -1,0 +1,24 @@
+//! What a hub's journal tells an operator: a line for each event, as text or as JSON.
+//!
+//! Choices that concern this crate alone:
+//!
+//! - Entries are not checked. What is told of an entry rests on what is remembered of those before it, and what is not known,
+//!   as the name of a node that no entry registered, is left out.
+//! - Nothing is remembered of nodes that are gone, of requests that are settled and of sessions that have ended, so that a
+//!   journal of any length is read in the memory that the farm at its fullest takes.
+//! - The lines of an entry are written before the next entry is read.
+#![tactic(auto)]
+
+mod facts;
+mod form;
+mod line;
+mod log;
+mod recall;
+mod rows;
+mod telling;
+mod top;
+mod writing;
+
+pub use form::Form;
+pub use log::log_lines;
+pub use top::log_main;

@@ -1,0 +1,19 @@
+use Rattle.std.proofs.Common.{◌≡◌, ◌≤◌}
+use Rattle.std.specs.Prelude.{true}
+use Rattle.grid_outside.specs.Counts.{Rose}
+use Rattle.grid_outside.specs.Told.{Gains}
+use Rattle.journal_reader.specs.Feeds.{waiting}
+use Rattle.journal_reader.specs.Readings.{left_of}
+use Rattle.journal_reader.proofs.reader.take_head.Given as goal
+
+abbrev pub invariant-pieces : goal.invariant-pieces
+invariant-pieces g l = record {
+  gains : Gains (g.S.Source.given l.fn.input) (g.S.Source.given l.input) (waiting l.feed);
+  taken : l.feed.taken ≡ 0;
+  end : l.feed.ended ≡ true → Rose (g.S.Source.ends l.fn.input) (g.S.Source.ends l.input);
+  ends : g.S.Source.ends l.fn.input ≤ g.S.Source.ends l.input;
+  faults : g.S.Source.faults l.fn.input ≤ g.S.Source.faults l.input;
+}
+
+abbrev pub decreases-pieces : goal.decreases-pieces
+decreases-pieces g l = left_of l.feed

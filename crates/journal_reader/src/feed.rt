@@ -1,0 +1,25 @@
+//! The bytes of the input that were read.
+ghost use Rattle.std.specs.Prelude.{◌+◌, ◌-◌, ◌^◌, ◌≤◌, vec_len};
+
+mod reading;
+
+/// Why reading did not go on.
+#[derive(Clone, Copy, Debug, PartialEq, Eq)]
+pub enum ReadFault {
+    /// A read failed.
+    Read,
+    /// Memory was wanted and there was none.
+    Memory,
+}
+
+/// The bytes that were read and are not taken off the front yet: those of `bytes` from `start` on. Before them `taken` bytes
+/// were taken off, and `ended` says whether the input has ended behind them.
+#[derive(Drop)]
+pub struct Feed {
+    bytes: Vec<u8>,
+    start: usize,
+    taken: u64,
+    ended: bool,
+    ghost within: { start ≤ vec_len bytes },
+    ghost most: { taken + (vec_len bytes - start) ≤ 2 ^ 40 },
+}

@@ -1,0 +1,11 @@
+//! Trials of the log of a journal.
+#![tactic(auto)]
+
+#[cfg(test)]
+mod changes;
+#[cfg(test)]
+mod ends;
+#[cfg(test)]
+mod lines;
+#[cfg(test)]
+mod logs;

@@ -1,0 +1,43 @@
+//! Journals in memory, and the log of one.
+use grid_journal::{write_entry, write_head};
+use grid_log::log_main;
+use grid_outside::{MemSink, MemSource};
+use grid_types::{Bytes, Entry, HubConfig, Text};
+use std::alloc::Global;
+use std::test::Fail;
+
+/// The head of a journal with the usual configuration.
+pub fn head(alloc: Global) -> Result<Vec<u8>, Fail> {
+    let head = write_head(alloc, &HubConfig::default())?;
+    let mut bytes = Vec::new(alloc);
+    bytes.extend_from_slice(head.as_bytes())?;
+    Ok(bytes)
+}
+
+/// Puts the entry's bytes last.
+pub fn put(alloc: Global, bytes: &mut Vec<u8>, entry: &Entry) -> Result<(), Fail> {
+    let more = write_entry(alloc, entry)?;
+    bytes.extend_from_slice(more.as_bytes())?;
+    Ok(())
+}
+
+/// The status of a log by these words, and what was written, where the reads and the writes with these numbers fail. Bytes come
+/// and go in small pieces.
+pub fn log(
+    alloc: Global,
+    words: &[&str],
+    journal: &[u8],
+    reads: &[u64],
+    writes: &[u64],
+) -> Result<(u8, Vec<u8>), Fail> {
+    let mut texts = Vec::new(alloc);
+    for word in words {
+        texts.push(Text::of(alloc, word)?)?;
+    }
+    let mut input = MemSource::new(Bytes::of(alloc, journal)?, 23, reads.to_vec(alloc)?);
+    let mut output = MemSink::new(alloc, 19, writes.to_vec(alloc)?);
+    let status = log_main(alloc, texts.as_slice(), &mut input, &mut output);
+    let mut written = Vec::new(alloc);
+    written.extend_from_slice(output.taken())?;
+    Ok((status, written))
+}
