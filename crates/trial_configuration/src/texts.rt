@@ -1,4 +1,5 @@
 //! Texts, and what each says: its words, or its fault and what is wrong with it.
+use config_keys::{Row, attach_rows, reason_of, rows_of};
 use config_text::*;
 use grid_types::{NoMemory, Text};
 use std::alloc::Global;
@@ -33,7 +34,10 @@ const TEXTS: &[(&str, &str)] = &[
     ("hub", "[[server]]\nport = 1\n"),
     ("hub", "[servers]\nport = 1\n"),
     ("hub", "port = 1\n"),
-    ("hub", "[server]\nport = 1\nhost = 1\n"),
+    ("hub", "[server]\n\"\" = 1\n"),
+    ("hub", "[server]\n\"a\\nb\" = 1\n"),
+    ("hub", "\"\" = 1\n"),
+    ("hub", "[server]\nport = 1\naddress = 1\n"),
     ("hub", "[server]\nport = 0\n[distributor]\nworkers = 65\n"),
     ("hub", "[server]\nport = 1\nport = 2\n"),
     ("hub", "[server]\nport = 4445\n[distributor\n"),
@@ -51,20 +55,16 @@ const TEXTS: &[(&str, &str)] = &[
     ("attach", "[node]\ncapability = \"=7\"\n"),
 ];
 
-/// What the text says to the program.
-fn said(alloc: Global, program: &str, text: &[u8]) -> Result<WordList, ConfigFault> {
+/// What the text says to the program, and the keys that it has.
+fn said(
+    alloc: Global,
+    program: &str,
+    text: &[u8],
+) -> (Result<WordList, ConfigFault>, &'static [Row]) {
     match program {
-        "attach" => attach_config_words(alloc, text),
-        "node" => config_words(alloc, Mode::Node, text),
-        _ => config_words(alloc, Mode::Hub, text),
-    }
-}
-
-fn reason(alloc: Global, program: &str, text: &[u8]) -> Option<String> {
-    match program {
-        "attach" => attach_config_reason(alloc, text),
-        "node" => config_reason(alloc, Mode::Node, text),
-        _ => config_reason(alloc, Mode::Hub, text),
+        "attach" => (attach_config_words(alloc, text), attach_rows()),
+        "node" => (config_words(alloc, Mode::Node, text), rows_of(Mode::Node)),
+        _ => (config_words(alloc, Mode::Hub, text), rows_of(Mode::Hub)),
     }
 }
 
@@ -78,19 +78,30 @@ fn tell_words(rt: HostRuntime, words: &[Text]) -> io::Result<()> {
     println!(rt)
 }
 
-fn tell_fault(rt: HostRuntime, program: &str, text: &[u8], fault: &ConfigFault) -> io::Result<()> {
-    println!(rt; " {fault}")?;
-    match reason(rt.alloc(), program, text) {
-        Some(reason) => println!(rt; " {reason}"),
-        None => println!(rt; " (no reason)"),
+/// The fault with its section and its key.
+fn name(fault: &ConfigFault) -> (&'static str, &str, &str) {
+    match fault {
+        ConfigFault::TooLong => ("TooLong", "", ""),
+        ConfigFault::NotToml => ("NotToml", "", ""),
+        ConfigFault::UnknownKey { section, key } => ("UnknownKey", section.as_str(), key.as_str()),
+        ConfigFault::WrongValue { section, key } => ("WrongValue", section.as_str(), key.as_str()),
+        ConfigFault::Memory => ("Memory", "", ""),
     }
+}
+
+fn tell_fault(rt: HostRuntime, rows: &[Row], text: &[u8], fault: &ConfigFault) -> io::Result<()> {
+    let (name, section, key) = name(fault);
+    let reason = reason_of(rt.alloc(), rows, text, fault);
+    let reason = reason.as_deref().unwrap_or("(no reason)");
+    println!(rt; " {name} {section:?} {key:?}\n {reason}")
 }
 
 /// Writes what the text says.
 pub(crate) fn tell(rt: HostRuntime, program: &str, text: &[u8]) -> io::Result<()> {
-    match said(rt.alloc(), program, text) {
+    let (told, rows) = said(rt.alloc(), program, text);
+    match told {
         Ok(words) => tell_words(rt, words.words()),
-        Err(fault) => tell_fault(rt, program, text, &fault),
+        Err(fault) => tell_fault(rt, rows, text, &fault),
     }
 }
 
@@ -120,5 +131,6 @@ pub(crate) fn tell_all(rt: HostRuntime) -> io::Result<()> {
     tell(rt, "hub", b"# \xff\n")?;
     tell_line_feeds(rt, MOST_TEXT_BYTES)?;
     tell_line_feeds(rt, MOST_TEXT_BYTES + 1)?;
-    println!(rt; "where there is no memory\n {}", ConfigFault::Memory)
+    println!(rt; "where there is no memory")?;
+    tell_fault(rt, rows_of(Mode::Hub), b"", &ConfigFault::Memory)
 }

@@ -336,7 +336,24 @@ const A_START_IS_THE_LAST_WHERE_THE_NODE_DRAINS: &[Step] = &[
     (0, Call::Poll(1), "start failed BadReply"),
 ];
 
-const PLAYS: [&[Step]; 12] = [
+/// The first request is given up while it waits, the second while a start for it is under way and again once that came.
+const A_REQUEST_IS_GIVEN_UP: &[Step] = &[
+    (0, node!(0, 0), "registered 1"),
+    (0, wish!(0), "queued 1"),
+    (0, wish!(0), "queued 2"),
+    (0, wish!(0), "queued 3"),
+    (1, Call::Withdraw(1), "withdrawn"),
+    (1, Call::Dispatch, "assigned 2 on 1.0"),
+    (2, Call::Withdraw(2), "not yet"),
+    (3, bind!(2, 0, 0), "bound 2"),
+    (4, Call::Withdraw(2), "created 2"),
+    (5, Call::Withdraw(3), "withdrawn"),
+    (6, end!(0, 2), "ended 1.0 at x:1 to quit"),
+    (6, freed!(1), "freed"),
+    (6, Call::Dispatch, "nothing"),
+];
+
+const PLAYS: [&[Step]; 13] = [
     A_REQUEST_PASSES_ONE_THAT_FINDS_NO_SLOT,
     A_SESSION_COMES_TOO_LATE,
     A_SECOND_SESSION_OF_ONE_ID_IS_NOT_KEPT,
@@ -349,6 +366,7 @@ const PLAYS: [&[Step]; 12] = [
     NODES_TAKE_TURNS,
     A_NAME_IS_TAKEN_WHILE_ITS_NODE_IS_REGISTERED,
     A_START_IS_THE_LAST_WHERE_THE_NODE_DRAINS,
+    A_REQUEST_IS_GIVEN_UP,
 ];
 
 #[test]

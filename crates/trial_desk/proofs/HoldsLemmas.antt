@@ -15,7 +15,7 @@ use Rattle.grid_types.specs.Calls.{Call, Reply}
 use Rattle.hub_core.specs.HubView.{HubView, past}
 use Rattle.hub_core.specs.Answers.{Answers}
 use Rattle.hub_core.specs.Serves.{Serves, MayCall, hands_ticket, hands_reservation, hands_closing}
-use Rattle.hub_core.specs.Replies.{enqueued_reply, polled_reply, dispatched_reply, binding_reply, ending_reply, expiring_reply, KeepsTicket, KeepsReservation}
+use Rattle.hub_core.specs.Replies.{enqueued_reply, polled_reply, withdrawing_reply, dispatched_reply, binding_reply, ending_reply, expiring_reply, KeepsTicket, KeepsReservation}
 use Rattle.hub_core.specs.declared.answers.Enqueued.{Enqueued}
 use Rattle.hub_core.specs.declared.answers.Enqueued.TheVariants as enqueued
 use Rattle.hub_core.specs.declared.answers.Dispatched.{Dispatched}
@@ -26,10 +26,12 @@ use Rattle.hub_core.specs.declared.answers.Expiring.{Expiring}
 use Rattle.hub_core.specs.declared.answers.Expiring.TheVariants as expiring
 use Rattle.hub_core.specs.declared.answers.Polled.{Polled}
 use Rattle.hub_core.specs.declared.answers.Polled.TheVariants as polled
+use Rattle.hub_core.specs.declared.answers.Withdrawing.{Withdrawing}
+use Rattle.hub_core.specs.declared.answers.Withdrawing.TheVariants as withdrawing
 use Rattle.hub_core.specs.declared.answers.Binding.{Binding}
 use Rattle.hub_core.specs.declared.answers.Binding.TheVariants as binding
 use Rattle.trial_desk.specs.declared.drawers.Drawers.{Drawers}
-use Rattle.trial_desk.specs.Holds.{place_of, IsTicket, IsReservation, IsClosing, Holds, Spares, HasNewTicket, HasReservation, HasEnded, HasExpired, HasGoodTicket, HasGoodClosing}
+use Rattle.trial_desk.specs.Holds.{place_of, IsTicket, IsReservation, IsClosing, Holds, Spares, HasNewTicket, HasReservation, HasEnded, HasExpired, HasGoodTicket, HasOwnTicket, HasGoodClosing}
 
 -- what is kept under a number is not under a number where nothing is kept
 apart : {T : Type 0} (kept : ℕ → Option T) (q r : ℕ) (t : T) → kept q ≡ None → kept r ≡ Some t → nat_eq q r ≡ false
@@ -44,6 +46,7 @@ slots-alike s t e = let node : s.node ≡ t.node = grind arith in let index : s.
 
 ticket-spared : (call : Call) (d : Drawers) (r : ℕ) (t : Ticket) → Spares call d → get nat_cmp d.tickets r ≡ Some t → t.request ≡ r → hands_ticket call t.request ≡ false
 ticket-spared (Call.poll u) d r t spares found same = rw same (apart (get nat_cmp d.tickets) u.request r t spares found)
+ticket-spared (Call.withdraw u) d r t spares found same = rw same (apart (get nat_cmp d.tickets) u.request r t spares found)
 ticket-spared call d r t spares found same = refl
 
 reservation-spared : (call : Call) (d : Drawers) (r : ℕ) (t : Reservation) → Spares call d → get nat_cmp d.reservations r ≡ Some t → t.request ≡ r →
@@ -119,6 +122,11 @@ polled-good c H later r t at (polled.Settled o) serves back good = tt
 polled-good c H later r t at (polled.Memory u) serves back good =
     let stays : later ≡ H = lack-stays c H later (Call.poll t) at serves.answers in
     subst (λ (G : List Entry). IsTicket G u.request u) (sym stays) (subst (λ (v : Ticket). IsTicket H v.request v) (sym back) (refl, good.1, good.2))
+
+-- of the answer where a request is given up
+pub withdrawing-good : (c : HubConfig) (H later : List Entry) (call : Call) (at : ℕ) (answer : Withdrawing) → Serves c H 0 call at (withdrawing_reply answer) later → HasOwnTicket later answer
+withdrawing-good c H later call at (withdrawing.NotYet u) serves = (refl, serves.gives.0, serves.gives.1)
+withdrawing-good c H later call at answer serves = tt
 
 -- and of the answer to a bind
 pub bound-good : (c : HubConfig) (H later : List Entry) (r : ℕ) (t : Reservation) (x : List ℕ) (caps : List Cap) (at : ℕ) (answer : Binding) →

@@ -16,6 +16,8 @@ use Rattle.hub_core.specs.declared.answers.Expiring.{Expiring}
 use Rattle.hub_core.specs.declared.answers.Expiring.TheVariants as expiring
 use Rattle.hub_core.specs.declared.answers.Polled.{Polled}
 use Rattle.hub_core.specs.declared.answers.Polled.TheVariants as polled
+use Rattle.hub_core.specs.declared.answers.Withdrawing.{Withdrawing}
+use Rattle.hub_core.specs.declared.answers.Withdrawing.TheVariants as withdrawing
 use Rattle.hub_core.specs.declared.answers.Binding.{Binding}
 use Rattle.hub_core.specs.declared.answers.Binding.TheVariants as binding
 use Rattle.trial_desk.specs.declared.drawers.Drawers.{Drawers}
@@ -45,6 +47,7 @@ pub record Holds (H : List Entry) (drawers : Drawers) : Type 0 where
 -- the token that a call is handed is not among these
 abbrev pub Spares : Call → Drawers → Type 0
 Spares (Call.poll t) drawers = get nat_cmp drawers.tickets t.request ≡ None
+Spares (Call.withdraw t) drawers = get nat_cmp drawers.tickets t.request ≡ None
 Spares (Call.bind t x caps) drawers = get nat_cmp drawers.reservations t.request ≡ None
 Spares (Call.fail t w) drawers = get nat_cmp drawers.reservations t.request ≡ None
 Spares (Call.freed t) drawers = get nat_cmp drawers.closings (place_of t.slot) ≡ None
@@ -72,6 +75,10 @@ HasGoodTicket H (polled.NotYet t) = IsTicket H t.request t
 HasGoodTicket H (polled.Yours t r) = IsTicket H t.request t × IsReservation H r.request r
 HasGoodTicket H (polled.Settled o) = Unit {0}
 HasGoodTicket H (polled.Memory t) = IsTicket H t.request t
+
+abbrev pub HasOwnTicket : List Entry → Withdrawing → Type 0
+HasOwnTicket H (withdrawing.NotYet t) = IsTicket H t.request t
+HasOwnTicket H answer = Unit {0}
 
 abbrev pub HasGoodClosing : List Entry → Binding → Type 0
 HasGoodClosing H (binding.Bound b) = Unit {0}

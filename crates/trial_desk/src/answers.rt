@@ -69,6 +69,7 @@ pub enum Answer {
     NotYet,
     Yours(Held),
     Settled(Outcome),
+    Withdrawn,
     Assigned(Held),
     /// There is no assignment, or no idle session.
     Nothing,

@@ -35,6 +35,7 @@ pub enum Call {
         wait_ms: u64,
     },
     Poll(ReqNo),
+    Withdraw(ReqNo),
     Dispatch,
     Bind {
         request: ReqNo,
@@ -187,6 +188,7 @@ pub fn make(desk: &mut Desk, alloc: Global, call: &Call, at: Moment) -> Result<A
             wait_ms,
         } => desk.enqueue(choices_of(alloc, first, second, wait_ms)?, at),
         Call::Poll(request) => desk.poll(request, at),
+        Call::Withdraw(request) => desk.withdraw(request, at),
         Call::Dispatch => desk.dispatch(at),
         Call::Bind {
             request,

@@ -72,6 +72,15 @@ impl Desk {
         self.drawers.keep_polled(polled)
     }
 
+    /// Gives the request up, by its ticket. `NoToken`: the desk has none for it.
+    pub fn withdraw(&mut self, request: ReqNo, at: Moment) -> Result<Answer, Fault> {
+        let Some(ticket) = self.drawers.take_ticket(request) else {
+            return Err(Fault::NoToken);
+        };
+        let withdrawing = self.hub.withdraw(ticket, at);
+        self.drawers.keep_withdrawing(withdrawing)
+    }
+
     /// Binds a session to the slot that is held for the request.
     pub fn bind(
         &mut self,

@@ -3,12 +3,13 @@ ghost use Rattle.std.specs.Prelude.{◌≡◌, List, [], None, IfSome};
 ghost use Rattle.std.specs.Ordering.{nat_cmp};
 ghost use Rattle.std.specs.BTreeMap.{get};
 ghost use Rattle.grid_types.specs.declared.entry.Entry.{Entry};
-ghost use Rattle.trial_desk.specs.Holds.{place_of, Holds, IsTicket, IsReservation, IsClosing, HasNewTicket, HasReservation, HasEnded, HasExpired, HasGoodTicket, HasGoodClosing};
+ghost use Rattle.trial_desk.specs.Holds.{place_of, Holds, IsTicket, IsReservation, IsClosing, HasNewTicket, HasReservation, HasEnded, HasExpired, HasGoodTicket, HasOwnTicket, HasGoodClosing};
 
 use crate::answers::{Answer, Closed, Fault, Held};
 use grid_types::{ReqNo, SlotId};
 use hub_core::{
     Binding, Closing, Dispatched, Ending, Enqueued, Expiring, Polled, Reservation, Ticket,
+    Withdrawing,
 };
 use std::alloc::Global;
 use std::collections::BTreeMap;
@@ -172,6 +173,21 @@ impl Drawers {
             Polled::Memory(ticket) => {
                 self.keep_ticket(ticket)?;
                 Err(Fault::Memory)
+            }
+        }
+    }
+
+    /// Keeps the ticket of a request that is not given up yet.
+    pub(crate) fn keep_withdrawing(&mut self, withdrawing: Withdrawing) -> Result<Answer, Fault>
+        ensures { (H : List Entry) → Holds H self.old → HasOwnTicket H withdrawing →
+            Holds H self.new }
+    {
+        match withdrawing {
+            Withdrawing::Withdrawn => Ok(Answer::Withdrawn),
+            Withdrawing::Settled(outcome) => Ok(Answer::Settled(outcome)),
+            Withdrawing::NotYet(ticket) => {
+                self.keep_ticket(ticket)?;
+                Ok(Answer::NotYet)
             }
         }
     }

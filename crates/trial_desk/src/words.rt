@@ -45,6 +45,7 @@ fn word(answer: &Answer) -> &'static str {
         Answer::NoNode => "no node",
         Answer::Unsupported => "unsupported",
         Answer::NotYet => "not yet",
+        Answer::Withdrawn => "withdrawn",
         Answer::Nothing => "nothing",
         Answer::Again => "again",
         Answer::Refused => "refused",

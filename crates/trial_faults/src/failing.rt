@@ -30,7 +30,7 @@ fn serves_five<R: Wait>(
 }
 
 /// Whether the hub says this afterwards.
-fn says<R: Wait>(
+pub(crate) fn says<R: Wait>(
     rt: &R,
     alloc: Global,
     hub: &SharedHub,

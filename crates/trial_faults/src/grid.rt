@@ -33,7 +33,8 @@ fn served<R: Wait, L: Link, N: NodeLink, C: Clock>(
     serve_shared(rt, alloc, hub, pass, link, nodes, clock)
 }
 
-fn are_asked(alloc: Global, nodes: &MemNodes, wanted: &str) -> Option<bool> {
+/// Whether these are the exchanges that were made.
+pub(crate) fn are_asked(alloc: Global, nodes: &MemNodes, wanted: &str) -> Option<bool> {
     let asks = asks_of(alloc, nodes)?;
     Some(asks.as_str() == wanted)
 }

@@ -1,12 +1,28 @@
 //! Trials of connections over a shared hub where something goes wrong: a read, a write or an exchange fails, bytes are malicious,
-//! a node misbehaves; and that the pieces in which bytes come and go make no difference.
+//! a node misbehaves; and that neither the pieces in which bytes come and go make a difference, nor calls that find nothing there
+//! on a connection that shares its thread; how many turns a relayed command takes there; and that there neither a node that never
+//! answers nor clients that leave hold up anybody.
 #![tactic(auto)]
 
+#[cfg(test)]
+mod beside;
+#[cfg(test)]
+mod callers;
 #[cfg(test)]
 mod failing;
 #[cfg(test)]
 mod grid;
 #[cfg(test)]
+mod leaving;
+#[cfg(test)]
+mod left_start;
+#[cfg(test)]
 mod plays;
+#[cfg(test)]
+mod seats;
+#[cfg(test)]
+mod table;
+#[cfg(test)]
+mod turns;
 #[cfg(test)]
 mod worked;

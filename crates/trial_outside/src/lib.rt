@@ -2,9 +2,13 @@
 #![tactic(auto)]
 
 #[cfg(test)]
+mod bursts;
+#[cfg(test)]
 mod clocks;
 #[cfg(test)]
 mod doors;
+#[cfg(test)]
+mod late;
 #[cfg(test)]
 mod lines;
 #[cfg(test)]

@@ -131,9 +131,10 @@ fn a_node_that_is_not_there_is_unreachable_at_once(rt: HostRuntime) {
 
 /// A network with a clock that shows the seconds of a number.
 #[derive(Clone, Copy, Drop)]
-struct Timed<'a, R> {
-    rt: R,
-    at: &'a AtomicU64,
+pub(crate) struct Timed<'a, R> {
+    pub(crate) rt: R,
+    /// In seconds.
+    pub(crate) at: &'a AtomicU64,
 }
 
 impl<'a, R: Net> Net for Timed<'a, R> {
@@ -160,6 +161,12 @@ impl<'a, R> Clock for Timed<'a, R> {
     }
 }
 
+/// Waits until something may go on. Without room for its place no wait would be one.
+pub(crate) fn rests<G: Gate>(gate: &mut G, ready: &mut Vec<usize>) {
+    ready.clear();
+    gate.wait(50, ready);
+}
+
 /// Whether an exchange with a node that says nothing is given up after so many seconds and no sooner.
 fn is_given_up<G: Gate>(
     alloc: Global,
@@ -169,14 +176,16 @@ fn is_given_up<G: Gate>(
     at: &AtomicU64,
     seconds: u64,
 ) -> bool {
-    let mut ready = Vec::new(alloc);
+    let Ok(mut ready) = Vec::with_capacity(alloc, 4) else {
+        return false;
+    };
     let mut nodes = gate.nodes(3);
     at.store(0, Ordering::SeqCst);
     nodes.ask(alloc, address, request);
     let mut goes_on = true;
     for _ in 0..5 {
         goes_on = goes_on && nodes.came(alloc).is_none();
-        gate.wait(50, &mut ready);
+        rests(gate, &mut ready);
     }
     at.store(seconds.saturating_sub(1), Ordering::SeqCst);
     let waits = nodes.came(alloc).is_none();

@@ -113,6 +113,8 @@ impl<'a> NodeLine for HeldNodeLine<'a> {
 
     ghost one = { λ n. one_at_most n.under };
 
+    fn allow(&mut self, _ms: u64) {}
+
     fn ask(&mut self, _alloc: Global, _address: &NodeAddress, request: &NodeRequest<'_>) {
         let starts = is_start(request);
         if starts {

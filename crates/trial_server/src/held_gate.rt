@@ -1,11 +1,12 @@
 //! A door whose links and nodes wait for one another, so that a hub that does one thing after the other does not end
 //! well with it.
-ghost use Rattle.std.specs.Prelude.{◌≡◌, ℕ, ◌<◌, ◌≤◌, List, ◌++◌, None, IfOk, length, vec_capacity};
+ghost use Rattle.std.specs.Prelude.{◌≡◌, ℕ, ◌<◌, ◌≤◌, List, ◌++◌, None, Some, IfOk, length, vec_capacity};
 ghost use Rattle.grid_outside.specs.Told.{counting};
 
 use crate::gates::{HeldNodeLine, SharedClock, name_places, pass_time};
 use crate::held::{HeldNodes, NEW_SESSION, REGISTRATION, Role, Shared, give};
 use grid_outside::{Door, Failed, Gate, Line, Reading, Writing};
+use std::net::IpAddr;
 use std::sync::atomic::Ordering;
 use std::thread;
 use std::time::Duration;
@@ -64,6 +65,10 @@ impl<'a> Line for HeldLine<'a> {
         }
         Writing::Bytes(from.len())
     }
+
+    fn gone(&mut self) -> bool {
+        false
+    }
 }
 
 /// A wait takes 1 ms. Each request that was given before counts as one of a client that waits.
@@ -109,6 +114,7 @@ pub(crate) struct HeldDoor<'a> {
     rt: HostRuntime,
     shared: &'a Shared,
     links: u32,
+    host: Option<IpAddr>,
     bound: Option<u16>,
     ends: u64,
 }
@@ -119,6 +125,7 @@ impl<'a> HeldDoor<'a> {
             rt,
             shared,
             links: 0,
+            host: None,
             bound: None,
             ends: 0,
         }
@@ -134,7 +141,11 @@ impl<'a> Door for HeldDoor<'a> {
 
     type G = HeldGate<'a>;
 
-    ghost view = { λ d. record { faults = 0; ends = d.ends; bound = d.bound } };
+    ghost view = { λ d. record { faults = 0; ends = d.ends; host = d.host; bound = d.bound } };
+
+    fn listen_at(&mut self, host: IpAddr) {
+        self.host = Some(host);
+    }
 
     fn bind(&mut self, port: u16) -> Result<(), Failed> {
         self.bound = Some(port);

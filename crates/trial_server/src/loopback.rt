@@ -126,3 +126,11 @@ fn a_session_goes_through_hub_and_node(rt: HostRuntime) -> Result<(), Fail> {
     assert!(rt; is_so);
     Ok(())
 }
+
+/// One thread drives all connections, and 200 of them hold it up in nothing.
+#[test]
+fn a_session_goes_beside_silent_connections(rt: HostRuntime) -> Result<(), Fail> {
+    let is_so = goes_through(&rt, rt, "--handlers=1", 200)?;
+    assert!(rt; is_so);
+    Ok(())
+}

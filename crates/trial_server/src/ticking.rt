@@ -1,5 +1,5 @@
 //! A hub without workers, whose node falls silent.
-ghost use Rattle.std.specs.Prelude.{◌≡◌, ℕ, ◌<◌, ◌≤◌, List, ◌++◌, None, IfOk, length, vec_capacity};
+ghost use Rattle.std.specs.Prelude.{◌≡◌, ℕ, ◌<◌, ◌≤◌, List, ◌++◌, None, Some, IfOk, length, vec_capacity};
 ghost use Rattle.grid_outside.specs.Told.{counting};
 
 use crate::gates::{HeldNodeLine, SharedClock, name_places, pass_time};
@@ -7,6 +7,7 @@ use crate::held::{HeldNodes, REGISTRATION, Shared, give};
 use crate::tests::words;
 use grid_outside::{Door, Failed, Gate, Line, Reading, Writing};
 use hub_server::hub_main;
+use std::net::IpAddr;
 use std::sync::atomic::{AtomicU64, Ordering};
 use std::test::Fail;
 
@@ -53,6 +54,10 @@ impl<'a> Line for Asker<'a> {
         self.is_empty = from.windows(NO_NODE.len()).any(|part| part == NO_NODE);
         Writing::Bytes(from.len())
     }
+
+    fn gone(&mut self) -> bool {
+        false
+    }
 }
 
 /// A wait takes 1 ms.
@@ -97,6 +102,7 @@ struct TickingDoor<'a> {
     shared: &'a Shared,
     taken: &'a AtomicU64,
     is_open: bool,
+    host: Option<IpAddr>,
     bound: Option<u16>,
     ends: u64,
 }
@@ -110,7 +116,11 @@ impl<'a> Door for TickingDoor<'a> {
 
     type G = TickingGate<'a>;
 
-    ghost view = { λ d. record { faults = 0; ends = d.ends; bound = d.bound } };
+    ghost view = { λ d. record { faults = 0; ends = d.ends; host = d.host; bound = d.bound } };
+
+    fn listen_at(&mut self, host: IpAddr) {
+        self.host = Some(host);
+    }
 
     fn bind(&mut self, port: u16) -> Result<(), Failed> {
         self.bound = Some(port);
@@ -161,6 +171,7 @@ fn a_silent_node_is_let_go(rt: HostRuntime) -> Result<(), Fail> {
         shared: &shared,
         taken: &taken,
         is_open: true,
+        host: None,
         bound: None,
         ends: 0,
     };

@@ -1,0 +1,141 @@
+//! Connections in memory that act beside each other over one hub, with what is to be seen of each.
+ghost use Rattle.hub_cell.specs.Passes.{IsOf};
+
+use crate::failing::says;
+use crate::grid::asked;
+use crate::seats::{MemSeat, has_asked, line_of};
+use crate::table::{Ends, Scene, play};
+use grid_outside::{MemClock, MemLine, MemNodeLine, MemNodes, NodeLink};
+use grid_types::{HubConfig, Moment};
+use hub_cell::{Pass, SharedHub};
+use hub_serving::{ConnFault, Served};
+use std::alloc::Global;
+use std::sync::Wait;
+use trial_play_tables::{Told, joined, nodes_of, plain, text_of};
+
+/// A client with its node, and what is to be seen of them.
+#[derive(Clone, Copy)]
+pub(crate) struct Caller {
+    pub(crate) sends: &'static [&'static [u8]],
+    /// From this look on it has left.
+    pub(crate) leaves: Option<u64>,
+    pub(crate) replies: &'static [(u16, &'static str)],
+    /// So often the node is asked in vain whether its reply has come.
+    pub(crate) silent: u64,
+    pub(crate) told: &'static [Told],
+    pub(crate) asks: &'static str,
+    /// None where it isn't over.
+    pub(crate) ended: Option<Result<Served, ConnFault>>,
+}
+
+/// The numbers up to this one.
+fn up_to(alloc: Global, count: u64) -> Option<Vec<u64>> {
+    let mut numbers = Vec::new(alloc);
+    for number in 0..count {
+        numbers.push(number).ok()?;
+    }
+    Some(numbers)
+}
+
+/// A line, what reaches the nodes, and the numbers of the questions that find nothing there.
+#[derive(Drop)]
+pub(crate) struct Reaching<N: Drop> {
+    line: MemLine,
+    nodes: N,
+    waits: Vec<u64>,
+}
+
+impl<N: NodeLink + Drop> Ends for Reaching<N> {
+    type L = MemLine;
+
+    type N = MemNodeLine<N>;
+
+    fn both(self) -> (MemLine, MemNodeLine<N>) {
+        let Reaching { line, nodes, waits } = self;
+        (line, MemNodeLine::new(nodes, waits))
+    }
+}
+
+fn line_to(alloc: Global, caller: &Caller) -> Option<MemLine> {
+    let sends = joined(alloc, caller.sends)?;
+    let line = line_of(alloc, &plain(sends.as_slice()))?;
+    match caller.leaves {
+        Some(look) => Some(line.gone_from(look)),
+        None => Some(line),
+    }
+}
+
+/// The ends of its connection.
+pub(crate) fn ends_of(alloc: Global, caller: &Caller) -> Option<Reaching<MemNodes>> {
+    let line = line_to(alloc, caller)?;
+    let nodes = nodes_of(alloc, caller.replies, &[])?;
+    let waits = up_to(alloc, caller.silent)?;
+    Some(Reaching { line, nodes, waits })
+}
+
+fn all_ends(alloc: Global, callers: &[Caller]) -> Option<Vec<Reaching<MemNodes>>> {
+    let mut all = Vec::new(alloc);
+    for caller in callers {
+        all.push(ends_of(alloc, caller)?).ok()?;
+    }
+    Some(all)
+}
+
+/// Whether its client took just this.
+pub(crate) fn has_told(alloc: Global, seat: &MemSeat, told: &[Told]) -> Option<bool> {
+    let told = text_of(alloc, told)?;
+    Some(seat.line().link().taken() == told.as_bytes())
+}
+
+fn is_so(alloc: Global, seat: &MemSeat, caller: &Caller) -> Option<bool> {
+    let is_told = has_told(alloc, seat, caller.told)?;
+    let is_asked = has_asked(alloc, seat, caller.asks)?;
+    Some(is_told && is_asked && seat.result() == caller.ended)
+}
+
+fn are_so(alloc: Global, seats: &[MemSeat], callers: &[Caller]) -> Option<bool> {
+    for (seat, caller) in seats.iter().zip(callers) {
+        if !is_so(alloc, seat, caller)? {
+            return Some(false);
+        }
+    }
+    Some(seats.len() == callers.len())
+}
+
+/// What a node that registers says, who calls, who acts when, and what the hub says of its slots and of its queue afterwards.
+#[derive(Clone, Copy)]
+pub(crate) struct Story {
+    pub(crate) registers: &'static [u8],
+    pub(crate) callers: &'static [Caller],
+    pub(crate) scenes: &'static [Scene],
+    pub(crate) after: &'static [Told],
+}
+
+fn goes_over<R: Wait>(
+    rt: &R,
+    alloc: Global,
+    hub: &SharedHub,
+    first: &mut Pass,
+    story: &Story,
+) -> Option<bool>
+    requires { IsOf hub.now first.old }
+    ensures { IsOf hub.now first.new }
+{
+    asked(rt, alloc, hub, first, story.registers)?;
+    let mut clock = MemClock::new(Moment(0));
+    let all = all_ends(alloc, story.callers)?;
+    let seats = play(rt, alloc, hub, first, all, story.scenes, &mut clock)?;
+    let is_seen = are_so(alloc, seats.as_slice(), story.callers)?;
+    let after = text_of(alloc, story.after)?;
+    let is_left = says(rt, alloc, hub, first, after.as_str())?;
+    Some(is_seen && is_left)
+}
+
+/// Whether the story goes so over a hub of its own.
+pub(crate) fn goes<R: Wait>(rt: &R, alloc: Global, story: &Story) -> Option<bool> {
+    let (hub, mut first) = SharedHub::new(rt, alloc, HubConfig::default(), 0, 1).ok()?;
+    let so = goes_over(rt, alloc, &hub, &mut first, story);
+    first.let_go();
+    hub.close(rt);
+    so
+}

@@ -1,0 +1,14 @@
+//! Trials of a hub that keeps its calls: what was kept is made again, also where a keep fails, and a row that can't be made
+//! again is told.
+#![tactic(auto)]
+
+#[cfg(test)]
+mod again;
+#[cfg(test)]
+mod bad_rows;
+#[cfg(test)]
+mod failing;
+#[cfg(test)]
+mod row_one;
+#[cfg(test)]
+mod run;

@@ -1,0 +1,141 @@
+//! A start that takes longer than it may.
+use crate::parts::{is_unreachable, request};
+use crate::sockets::{address_of, listener};
+use crate::tcp_nodes::{Timed, rests};
+use grid_outside::{Gate, NodeLine};
+use grid_sockets::TcpGate;
+use grid_types::NodeAddress;
+use std::alloc::Global;
+use std::io::{Read, Write};
+use std::net::{Ipv4Addr, Net, TcpListener, TcpStream};
+use std::process::Abort;
+use std::sync::atomic::{AtomicBool, AtomicU64, Ordering};
+use std::thread;
+use std::thread::Threads;
+use std::time::{Clock, Duration};
+
+/// What the node answers to the start, once that was given up.
+const SESSION: &str = "HTTP/1.1 200 OK\r\nContent-Length: 48\r\n\r\n\
+    {\"value\":{\"sessionId\":\"late\",\"capabilities\":{}}}";
+
+const ENDED: &str = "HTTP/1.1 200 OK\r\nContent-Length: 14\r\n\r\n{\"value\":null}";
+
+/// How often the node looks whether the start was given up.
+const LOOKS: u32 = 1_000;
+
+/// Whether the next request begins so.
+fn is_asked(stream: &mut TcpStream, wanted: &[u8]) -> bool {
+    let mut piece = [0; 512];
+    match stream.read(&mut piece) {
+        Ok(count) => count <= 512 && piece[..count].starts_with(wanted),
+        Err(_) => false,
+    }
+}
+
+/// Waits until the start was given up.
+fn waits<R: Threads + Clock>(rt: &R, given_up: &AtomicBool) -> bool {
+    for _ in 0..LOOKS {
+        if given_up.load(Ordering::SeqCst) {
+            return true;
+        }
+        thread::sleep(rt, Duration::from_millis(5));
+    }
+    false
+}
+
+/// A node that makes a session once its start was given up. Whether it is asked to end it then.
+fn makes_late<R: Threads + Clock>(
+    rt: &R,
+    listener: &TcpListener,
+    given_up: &AtomicBool,
+) -> Option<bool> {
+    let (mut stream, _) = listener.accept().ok()?;
+    let starts = is_asked(&mut stream, b"POST /session HTTP/1.1\r\n");
+    let late = waits(rt, given_up);
+    stream.write_all(SESSION.as_bytes()).ok()?;
+    let (mut stream, _) = listener.accept().ok()?;
+    let ends = is_asked(&mut stream, b"DELETE /session/late HTTP/1.1\r\n");
+    stream.write_all(ENDED.as_bytes()).ok()?;
+    Some(starts && late && ends)
+}
+
+/// Whether a start that may take 30 s is given up after these and no sooner. The time goes on afterwards.
+fn gives_up<G: Gate>(
+    alloc: Global,
+    gate: &mut G,
+    ready: &mut Vec<usize>,
+    address: &NodeAddress,
+    at: &AtomicU64,
+    given_up: &AtomicBool,
+    ended: &AtomicBool,
+) -> bool {
+    let mut nodes = gate.nodes(3);
+    nodes.allow(30_000);
+    nodes.ask(alloc, address, &request(b"POST", b"/session", b"{}"));
+    let mut goes_on = true;
+    for _ in 0..5 {
+        goes_on = goes_on && nodes.came(alloc).is_none();
+        rests(gate, ready);
+    }
+    at.store(29, Ordering::SeqCst);
+    goes_on = goes_on && nodes.came(alloc).is_none();
+    at.store(30, Ordering::SeqCst);
+    let is_late = nodes.came(alloc).is_some_and(|came| is_unreachable(&came));
+    given_up.store(true, Ordering::SeqCst);
+    for second in 31..231 {
+        if ended.load(Ordering::SeqCst) {
+            return goes_on && is_late;
+        }
+        at.store(second, Ordering::SeqCst);
+        rests(gate, ready);
+    }
+    false
+}
+
+/// Comes to the node's door as often as it may still wait for somebody there.
+fn comes<R: Net<Stream = TcpStream>>(rt: &R, port: u16) {
+    for _ in 0..2 {
+        let _ = TcpStream::connect(rt, (Ipv4Addr::LOCALHOST, port));
+    }
+}
+
+fn is_ended<
+    R: Threads
+        + Net<Listener = TcpListener, Stream = TcpStream>
+        + Clock
+        + Copy
+        + Send
+        + Sync
+        + Drop,
+>(rt: R, alloc: Global) -> Option<bool> {
+    let at = AtomicU64::new(0);
+    let given_up = AtomicBool::new(false);
+    let ended = AtomicBool::new(false);
+    let (listener, port) = listener(&rt)?;
+    let address = address_of(alloc, "127.0.0.1", port)?;
+    let mut gate = TcpGate::new(Timed { rt, at: &at }, alloc).ok()?;
+    let mut ready = Vec::with_capacity(alloc, 4).ok()?;
+    let (made, gave_up) = thread::join(
+        &rt,
+        || {
+            let made = makes_late(&rt, &listener, &given_up);
+            ended.store(true, Ordering::SeqCst);
+            made
+        },
+        || {
+            let so = gives_up(
+                alloc, &mut gate, &mut ready, &address, &at, &given_up, &ended,
+            );
+            comes(&rt, port);
+            so
+        },
+    );
+    Some(made? && gave_up)
+}
+
+/// The session that comes after all is ended.
+#[test]
+fn a_late_start_is_ended(rt: HostRuntime) {
+    let so = is_ended(rt, rt.alloc());
+    assert!(rt; so == Some(true));
+}
