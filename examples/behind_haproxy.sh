@@ -75,7 +75,7 @@ openssl req -x509 -newkey rsa:2048 -nodes -days 1 -subj /CN=localhost -addext su
     -keyout "$folder/key" -out "$folder/public" 2>/dev/null || fail "no certificate could be made"
 cat "$folder/public" "$folder/key" >"$CERTIFICATE"
 
-"${GRID_HUB:-$folder/bin/grid_hub}" --port "$hub_port" --handlers 128 &
+"${GRID_HUB:-$folder/bin/grid_hub}" --port "$hub_port" --host 127.0.0.1 &
 hub=$!
 haproxy -db -f "$top/examples/haproxy.cfg" 2>"$folder/proxy" &
 proxy=$!

@@ -2,14 +2,21 @@
 //!
 //!     load speed HUB PID SECONDS     how fast sessions go through the hub of this process, and to a node directly
 //!     load trouble HUB SESSIONS      clients that vanish and nodes that fail; what is held at the end
+//!     load rest HUB PID              10,000 connections that rest
+//!     load waiting HUB PID           10,000 New Sessions that wait
+//!     load large HUB PID             large bodies
+//!     load plain PORT                a plain hub to measure by, until it is ended
 mod clients;
 mod http;
+mod many;
 mod node;
+mod plain;
 
 use clients::{Ends, Handed, Times, measure, trouble};
 use http::Connection;
 use node::Node;
 use std::fs;
+use std::io;
 use std::process::ExitCode;
 use std::sync::Arc;
 use std::sync::atomic::{AtomicU64, Ordering};
@@ -178,12 +185,24 @@ fn troubles(hub: &str, sessions: u64) -> bool {
     handed.twice() == 0 && over == 0 && free == NODES * node::SLOTS && held + busy + closing == 0
 }
 
+/// An error is told.
+fn known(came: io::Result<bool>) -> bool {
+    came.unwrap_or_else(|error| {
+        println!("  it ended early: {error}");
+        false
+    })
+}
+
 fn main() -> ExitCode {
     let words: Vec<String> = std::env::args().skip(1).collect();
     let words: Vec<&str> = words.iter().map(String::as_str).collect();
     let is_right = match words[..] {
         ["speed", hub, pid, seconds] => seconds.parse().map(|seconds| speed(hub, pid, seconds)).ok(),
         ["trouble", hub, sessions] => sessions.parse().map(|sessions| troubles(hub, sessions)).ok(),
+        ["rest", hub, pid] => Some(known(many::rest(hub, pid))),
+        ["waiting", hub, pid] => Some(known(many::waiting(hub, pid))),
+        ["large", hub, pid] => Some(known(many::large(hub, pid))),
+        ["plain", port] => port.parse().map(|port| known(plain::serve(port))).ok(),
         _ => None,
     };
     match is_right {
@@ -193,7 +212,7 @@ fn main() -> ExitCode {
             ExitCode::FAILURE
         }
         None => {
-            eprintln!("usage: load speed HUB PID SECONDS | load trouble HUB SESSIONS");
+            eprintln!("usage: load speed HUB PID SECONDS | load trouble HUB SESSIONS | load rest|waiting|large HUB PID | load plain PORT");
             ExitCode::from(2)
         }
     }

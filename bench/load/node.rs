@@ -11,6 +11,9 @@ use std::time::Duration;
 /// Slots of each node.
 pub const SLOTS: usize = 16;
 
+/// Bytes of a large body.
+pub const LARGE: usize = 16 << 20;
+
 pub const NULL: &str = "{\"value\":null}";
 
 pub struct Node {
@@ -180,6 +183,7 @@ impl Node {
         match throw {
             0..2 => Deed::Breaks(vec![0, 1, 2]),
             2..4 => Deed::Breaks(Vec::new()),
+            _ if target.ends_with("/large") => Deed::Answers(response(200, &format!("\"{}\"", "x".repeat(LARGE - 2)))),
             _ if self.sessions.lock().unwrap().contains(id) => {
                 Deed::Answers(response(200, "{\"value\":\"about:blank\"}"))
             }

@@ -1,6 +1,6 @@
 #!/bin/sh
-# Builds the load program with rustc, starts a hub of this checkout on the loopback, and runs both loads over it: how fast
-# sessions go through the hub, and clients that vanish beside nodes that fail. Ends what it started.
+# Builds the load program with rustc, starts a hub of this checkout on the loopback, and runs its loads over it: how fast
+# sessions go through the hub, clients that vanish beside nodes that fail, and many connections at once. Ends what it started.
 #
 # Usage: bench/load/run.sh [SECONDS [CLIENTS]]    10 seconds for each measurement, 10000 clients in trouble
 # GRID_HUB names another hub's program, PORT another port than 4470.
@@ -43,5 +43,21 @@ fi
 rustc --edition 2024 -O -o "$folder/load" "$here/main.rs" || exit 1
 start
 "$folder/load" speed "$at" "$hub" "$seconds" || exit 1
+echo "the same over a plain hub"
+kill "$hub" && wait "$hub" 2>/dev/null
+"$folder/load" plain "$port" &
+hub=$!
+sleep 1
+"$folder/load" speed "$at" "$hub" "$seconds" || exit 1
 start --session-timeout 10
-"$folder/load" trouble "$at" "$clients"
+"$folder/load" trouble "$at" "$clients" || exit 1
+# Both have a socket for each connection.
+ulimit -n "$(ulimit -H -n)"
+# As in the unit of docs/OPERATING.md: the C library hands large blocks back at once.
+export MALLOC_MMAP_THRESHOLD_="${MALLOC_MMAP_THRESHOLD_:-131072}"
+status=0
+for load in rest waiting large; do
+    start --connections 12000 --session-timeout 600
+    "$folder/load" "$load" "$at" "$hub" || status=1
+done
+exit "$status"
