@@ -7,7 +7,7 @@
 //!   the exchange was allowed to take. A later call fails, so it counts as a fault; no contract speaks of it. Where no call waits, it is the next call that finds this: whoever drives such lines tries each now and then.
 //! - A start that is given up because its time is over is read on for up to 600 s from its beginning, beside all else: where its
 //!   node made the session after all, the node is asked to end it.
-//! - Where a client sends nothing more, and an answer comes 250 ms or more after its last byte, the last byte of the answer is held
+//! - Where a client sends nothing more, and an answer comes 5 ms or more after its last byte, the last byte of the answer is held
 //!   back for 100 ms: where the client was ended its system refuses the others, and the write fails. So a session that was created
 //!   for it is ended. Whoever only shut its writing half down has its answer then.
 //! - `accept` goes on by itself after what concerns one client and, with a pause of 15 ms, while the system lacks
