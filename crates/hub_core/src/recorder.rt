@@ -5,7 +5,7 @@ ghost use Rattle.std.specs.Prelude.{ℕ, false};
 use grid_types::Change;
 
 /// Whoever is told each change after the tables noted it.
-pub(crate) trait Recorder {
+pub trait Recorder {
     ghost use Rattle.std.specs.Prelude.{◌≡◌, ℕ, Bool, true, List, ◌∷◌};
     ghost use Rattle.grid_types.specs.declared.entry.Entry.{Entry};
     ghost use Rattle.grid_types.specs.Tables.{entry};
