@@ -5,3 +5,5 @@ pub mod OutLemmas
 pub mod HeadLemmas
 pub mod MomentLemmas
 pub mod RowLemmas
+pub mod FitLemmas
+pub mod PieceLemmas

@@ -5,7 +5,6 @@ mod ThereLemmas
 mod AgainLemmas
 mod SlotLemmas
 mod OpenLemmas
-mod FitLemmas
 mod AlongLemmas
 mod TableLemmas
 mod ReplayLemmas

@@ -12,8 +12,9 @@ use Rattle.grid_types.specs.Legal.{legal}
 use Rattle.grid_types.specs.Slots.{slot_eq}
 use Rattle.grid_types.specs.Tokens.{Reservation, Closing, Ticket, is_good_ticket, is_good_reservation, is_good_closing}
 use Rattle.grid_types.specs.Calls.{Call, Reply}
+use Rattle.grid_types.specs.HandedIn.{hands_ticket, hands_reservation, hands_closing}
 use Rattle.grid_types.specs.HubAnswers.{hub, after_call}
-use Rattle.token_laws.specs.Gives.{TokensComeFromReplies, hands_ticket, hands_reservation, hands_closing, gives_ticket, gives_reservation, gives_closing}
+use Rattle.token_laws.specs.Gives.{TokensComeFromReplies, gives_ticket, gives_reservation, gives_closing}
 use Rattle.hub_core.specs.Answers.{Answers}
 use Rattle.hub_core.specs.Serves.{Serves}
 use Rattle.hub_core.specs.HubView.{HubView, past, ServesLocally}

@@ -7,7 +7,8 @@ use Rattle.grid_types.specs.declared.names.SlotId.{SlotId}
 use Rattle.grid_types.specs.Tokens.{Ticket, Reservation, Closing, ticket_of, reservation_of, is_good_ticket, is_good_reservation, is_good_closing}
 use Rattle.grid_types.specs.Slots.{slot_eq}
 use Rattle.grid_types.specs.Calls.{Call, Reply}
-use Rattle.token_laws.specs.Gives.{hands_ticket, hands_reservation, hands_closing, gives_ticket, gives_reservation, gives_closing}
+use Rattle.grid_types.specs.HandedIn.{hands_ticket, hands_reservation, hands_closing}
+use Rattle.token_laws.specs.Gives.{gives_ticket, gives_reservation, gives_closing}
 use Rattle.hub_core.specs.declared.answers.Enqueued.{Enqueued}
 use Rattle.hub_core.specs.declared.answers.Enqueued.TheVariants as enqueued
 use Rattle.hub_core.specs.declared.answers.Dispatched.{Dispatched}

@@ -3,9 +3,11 @@ ghost use Rattle.std.specs.Prelude.{◌≡◌, IfOk, OnOk};
 ghost use Rattle.grid_journal.specs.declared.rows.Row.TheVariants as row;
 ghost use Rattle.grid_journal.specs.RowSpelled.{row_bytes, RowFits};
 
-use crate::fits::{caps_fit, choices_fit, registration_fits};
-use crate::small_rows::{moment_fits, session_fits};
-use grid_journal::{write_bind, write_enqueue, write_register};
+use crate::small_rows::moment_fits;
+use grid_journal::{
+    caps_fit, choices_fit, registration_fits, session_fits, write_bind, write_enqueue,
+    write_register,
+};
 use grid_types::{Bytes, Caps, Choices, Moment, NoMemory, Registration, ReqNo, SessionId};
 use std::alloc::Global;
 

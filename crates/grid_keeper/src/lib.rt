@@ -2,7 +2,6 @@
 #![tactic(auto)]
 
 mod again;
-mod fits;
 mod kept_hub;
 mod large_rows;
 mod laws;

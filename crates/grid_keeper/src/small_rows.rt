@@ -1,10 +1,10 @@
 //! The rows of calls, each with what it takes to be spelled.
 ghost use Rattle.std.specs.Prelude.{◌≡◌, IfOk};
 ghost use Rattle.grid_journal.specs.declared.rows.Row.TheVariants as row;
-ghost use Rattle.grid_journal.specs.Fits.{FitsEight, SessionFits, WhyFits};
+ghost use Rattle.grid_journal.specs.Fits.{FitsEight};
 ghost use Rattle.grid_journal.specs.RowSpelled.{row_bytes, RowFits};
 
-use grid_journal::{Row, write_row};
+use grid_journal::{Row, session_fits, why_fits, write_row};
 use grid_types::{Bytes, FailWhy, Moment, NoMemory, NodeNo, ReqNo, SessionId, SlotId};
 use std::alloc::Global;
 
@@ -13,13 +13,6 @@ pub(crate) fn moment_fits(at: Moment)
     ensures { FitsEight at.0 }
 {
     let _number = at.0;
-}
-
-/// A session's id has the size that a row can tell.
-pub(crate) fn session_fits(session: &SessionId)
-    ensures { SessionFits session.now }
-{
-    let _bytes = session.as_bytes();
 }
 
 pub(crate) fn beat_row(alloc: Global, node: NodeNo, at: Moment) -> Result<Bytes, NoMemory>
@@ -133,15 +126,6 @@ pub(crate) fn clear_row(alloc: Global, at: Moment) -> Result<Bytes, NoMemory>
 {
     moment_fits(at);
     write_row(alloc, &Row::Clear { at })
-}
-
-/// The words of a cause have the size that a row can tell.
-fn why_fits(why: &FailWhy)
-    ensures { WhyFits why.now }
-{
-    if let FailWhy::NodeRefused(words) = why {
-        let _text = words.as_str();
-    }
 }
 
 pub(crate) fn fail_row(

@@ -4,7 +4,5 @@
 
 mod faults;
 mod sql_keeper;
-#[cfg(test)]
-mod trial;
 
 pub use sql_keeper::SqlKeeper;

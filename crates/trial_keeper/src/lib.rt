@@ -1,5 +1,5 @@
 //! Trials of a hub that keeps its calls: what was kept is made again, also where a keep fails, and a row that can't be made
-//! again is told.
+//! again is told; and a keeper over a table of a database.
 #![tactic(auto)]
 
 #[cfg(test)]
@@ -12,3 +12,5 @@ mod failing;
 mod row_one;
 #[cfg(test)]
 mod run;
+#[cfg(test)]
+mod table;

@@ -1,13 +1,14 @@
-//! Whether a row can tell what a caller hands in: each count and each length has to fit its field of 32 bits. A list of
-//! which more stood in memory can't be kept, which is want of memory.
+//! Whether a row or an entry can tell what a caller hands in: each count and each length has to fit its field of 32 bits. A
+//! list of which more stood in memory can't be kept, which is want of memory.
 ghost use Rattle.std.specs.Prelude.{◌≡◌, OnOk};
-ghost use Rattle.grid_journal.specs.Fits.{AddressFits, AllFit, CapFits, CapsFit, ChoicesFit, FitsFour, GroupFits, GroupsFit, OptionFits, RegistrationFits, TextFits, ValueFits};
+ghost use Rattle.grid_journal.specs.Fits.{AddressFits, AllFit, CapFits, CapsFit, ChoicesFit, FitsFour, GroupFits, GroupsFit, OptionFits, RegistrationFits, SessionFits, TextFits, ValueFits, WhyFits};
 
 use grid_types::{
-    Cap, CapValue, Caps, Choices, Groups, NoMemory, NodeAddress, Registration, SlotGroup, Text,
+    Cap, CapValue, Caps, Choices, FailWhy, Groups, NoMemory, NodeAddress, Registration, SessionId,
+    SlotGroup, Text,
 };
 
-/// The greatest count that a row tells.
+/// The greatest count that is told.
 const MOST_COUNT: usize = 4_294_967_295;
 
 fn count_fits(count: usize) -> Result<(), NoMemory>
@@ -51,7 +52,8 @@ fn members_fit(members: &[Cap]) -> Result<(), NoMemory>
     Ok(())
 }
 
-pub(crate) fn caps_fit(caps: &Caps) -> Result<(), NoMemory>
+/// The members and their texts are no more than can be told. Err: they are.
+pub fn caps_fit(caps: &Caps) -> Result<(), NoMemory>
     ensures { OnOk result (CapsFit caps.now) }
 {
     count_fits(caps.items().len())?;
@@ -67,7 +69,8 @@ fn lists_fit(lists: &[Caps]) -> Result<(), NoMemory>
     Ok(())
 }
 
-pub(crate) fn choices_fit(choices: &Choices) -> Result<(), NoMemory>
+/// The choices, their members and texts are no more than can be told. Err: they are.
+pub fn choices_fit(choices: &Choices) -> Result<(), NoMemory>
     ensures { OnOk result (ChoicesFit choices.now) }
 {
     lists_fit(choices.items())
@@ -96,7 +99,7 @@ fn groups_fit(groups: &Groups) -> Result<(), NoMemory>
     each_group_fits(groups.items())
 }
 
-/// An address has the size that a row can tell.
+/// An address has the size that can be told.
 fn address_fits(address: &NodeAddress)
     ensures { AddressFits address.now }
 {
@@ -112,7 +115,8 @@ fn drain_count_fits(count: Option<u32>)
     }
 }
 
-pub(crate) fn registration_fits(node: &Registration) -> Result<(), NoMemory>
+/// The node's groups and texts are no more than can be told. Err: they are.
+pub fn registration_fits(node: &Registration) -> Result<(), NoMemory>
     ensures { OnOk result (RegistrationFits node.now) }
 {
     address_fits(&node.address);
@@ -120,4 +124,20 @@ pub(crate) fn registration_fits(node: &Registration) -> Result<(), NoMemory>
     let _sessions = node.max_sessions;
     text_fits(&node.name)?;
     groups_fit(&node.groups)
+}
+
+/// A session's id has the size that can be told.
+pub fn session_fits(session: &SessionId)
+    ensures { SessionFits session.now }
+{
+    let _bytes = session.as_bytes();
+}
+
+/// The words of a cause have the size that can be told.
+pub fn why_fits(why: &FailWhy)
+    ensures { WhyFits why.now }
+{
+    if let FailWhy::NodeRefused(words) = why {
+        let _text = words.as_str();
+    }
 }

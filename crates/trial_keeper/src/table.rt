@@ -1,7 +1,7 @@
 //! A keeper over a database in memory: what is kept is read again, also by a keeper that is made anew, and a table whose
 //! numbers have a hole is refused.
-use crate::SqlKeeper;
 use row_keeper::{KeepFault, Keeper};
+use sql_keeper::SqlKeeper;
 use sqlite::{Alter, Connection, MemStore};
 use std::alloc::Global;
 
