@@ -29,3 +29,5 @@ mod CalmLemmas
 mod CalmLineLemmas
 mod FaultyLemmas
 mod StayLemmas
+mod StayOpenLemmas
+mod WrittenOpenLemmas

@@ -14,8 +14,8 @@ ghost use Rattle.http_frames.specs.Feeding.{IsReaderStep, IsAlike};
 ghost use Rattle.http_frames.specs.Fields.{headers_of, values_of};
 ghost use Rattle.http_frames.specs.Frames.{Spells, IsRefused, IsAccepted, IsAwaited, IsWhole, Request, End, Frames};
 ghost use Rattle.http_frames.specs.Replies.{reply_headers, IsReply};
-ghost use Rattle.http_frames.specs.Writing.{response_bytes, request_bytes};
-ghost use Rattle.http_frames.specs.Written.{IsPhrase, IsValue, IsSendable, IsSendableRequest, IsReadResponse, IsReadRequest};
+ghost use Rattle.http_frames.specs.Writing.{response_bytes, request_bytes, open_request_bytes};
+ghost use Rattle.http_frames.specs.Written.{IsPhrase, IsValue, IsSendable, IsSendableRequest, IsReadResponse, IsReadRequest, IsReadOpenRequest};
 
 /// The bytes of a connection spell one list of requests, and end in one way. No spelling of a
 /// request is the beginning of another.
@@ -56,7 +56,7 @@ pub fn one_answer()
         → IsReaderStep limits bytes r → IsToldExactly limits bytes s → IsAlike bytes r s }
 {}
 
-/// What `write_response` and `write_request` write is read again as the same, whatever bytes follow
+/// What `write_response`, `write_request` and `write_open_request` write is read again as the same, whatever bytes follow
 /// it, where the parts are such as a message can have and the limits are kept.
 pub fn written_is_read()
     ensures response { (limits : FrameLimits) (status : ℕ) (reason : List ℕ)
@@ -74,6 +74,14 @@ pub fn written_is_read()
         → (h : RequestHead)
         × IsWhole limits (request_bytes address method target accept accept_encoding content_type content_encoding body ++ behind) h (body ∷ []) behind
         × IsReadRequest h address method target accept accept_encoding content_type content_encoding }
+    ensures open_request { (limits : FrameLimits) (address : List ℕ) (method : List ℕ) (target : List ℕ)
+        (accept : Option (Bor (List ℕ))) (accept_encoding : Option (Bor (List ℕ)))
+        (content_type : Option (Bor (List ℕ))) (content_encoding : Option (Bor (List ℕ)))
+        (body : List ℕ) (behind : List ℕ)
+        → IsSendableRequest limits address method target accept accept_encoding content_type content_encoding body
+        → (h : RequestHead)
+        × IsWhole limits (open_request_bytes address method target accept accept_encoding content_type content_encoding body ++ behind) h (body ∷ []) behind
+        × IsReadOpenRequest h address method target accept accept_encoding content_type content_encoding }
 {}
 
 /// The reason and the values of a message that was read may be written.

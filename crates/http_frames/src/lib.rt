@@ -14,6 +14,7 @@ mod laws;
 mod plain;
 mod reader;
 mod replies;
+mod staying;
 mod turns;
 mod writing;
 
@@ -28,7 +29,10 @@ pub use crate::laws::{
 pub use crate::plain::{PlainFrame, plain_request};
 pub use crate::reader::{FrameReader, ReaderStep};
 pub use crate::replies::{NodeReply, RStep, next_response};
-pub use crate::writing::{CONTINUE, NodeRequest, ReplyHeaders, write_request, write_response};
+pub use crate::staying::stays_open;
+pub use crate::writing::{
+    CONTINUE, NodeRequest, ReplyHeaders, write_open_request, write_request, write_response,
+};
 
 /// Why a request is refused (RFC 9112). Where several hold, the answer is the first of `BadHead`,
 /// `HeadTooLong`, `OtherCoding`, `BothLengths`, `BadLength`, `BodyTooLong` and `BadChunk`.
