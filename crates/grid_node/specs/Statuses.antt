@@ -1,13 +1,16 @@
 -- The statuses of the node's program.
 use Rattle.std.specs.Prelude.{◌≡◌, ℕ, ◌≤◌, ◌⊎◌, Some}
 use Rattle.grid_outside.specs.Counts.{Rose}
-use Rattle.grid_outside.specs.Told.{DoorView}
+use Rattle.grid_outside.specs.Told.{DoorView, NoneFell}
+use Rattle.grid_node.specs.declared.node_end.NodeEnd.{NodeEnd}
+use Rattle.grid_node.specs.declared.node_end.NodeEnd.TheVariants as ends
 
--- no count of a door fell, and it is bound where it was
-pub record NoneFell (old new : DoorView) : Type 0 where
-  pub ends : old.ends ≤ new.ends
-  pub faults : old.faults ≤ new.faults
-  pub bound : new.bound ≡ old.bound
+-- the status that tells each end
+abbrev pub code : NodeEnd → ℕ
+code ends.Closed = 0
+code ends.Refused = 2
+code ends.DoorFailed = 3
+code ends.NoMemory = 5
 
 -- the links ended behind a door that is bound: it was found closed, or it failed
 pub record HasServed (old new : DoorView) (status : ℕ) : Type 0 where

@@ -2,8 +2,10 @@
 #![tactic(auto)]
 
 mod beating;
+mod node_end;
 mod registering;
 mod serving;
+mod single;
 mod top;
 
 pub use top::node_main;

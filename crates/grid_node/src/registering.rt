@@ -62,11 +62,10 @@ pub(crate) fn registration(
     if groups.push(group).is_err() {
         return Err(NoMemory);
     }
-    Ok(Registration {
-        name: Text::of(alloc, name)?,
-        address: local_address(alloc, port)?,
-        max_sessions: slots,
+    Ok(Registration::new(
+        Text::of(alloc, name)?,
+        local_address(alloc, port)?,
+        slots,
         groups,
-        drain_after: None,
-    })
+    ))
 }

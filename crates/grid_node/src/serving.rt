@@ -1,20 +1,16 @@
 //! Serving the links that come in.
 ghost use Rattle.std.specs.Prelude.{◌≡◌, ◌≤◌, ◌⊎◌};
 ghost use Rattle.grid_outside.specs.Counts.{Rose};
-ghost use Rattle.grid_node.specs.Statuses.{HasServed};
+ghost use Rattle.grid_node.specs.Statuses.{HasServed, code};
 
 use crate::beating::{Shared, beat_between};
+use crate::node_end::NodeEnd;
+use crate::single::SingleLink;
 use grid_outside::{AwaitedLink, Clock, Door, Gate, Link};
 use loop_node::{LoopNode, serve_node};
 use std::alloc::Global;
 use std::sync::Wait;
 use std::sync::atomic::Ordering;
-
-/// The door was closed.
-pub(crate) const CLOSED: u8 = 0;
-
-/// The door failed, or had no gate.
-pub(crate) const DOOR_FAILED: u8 = 3;
 
 /// Serves one link, under the number that the hub answered last.
 fn serve_link<L: Link>(alloc: Global, shared: &Shared<'_>, node: &mut LoopNode, link: &mut L) {
@@ -26,8 +22,8 @@ fn serve_link<L: Link>(alloc: Global, shared: &Shared<'_>, node: &mut LoopNode, 
     let _ = serve_node(alloc, node, link);
 }
 
-/// Serves the link of one connection, waited for by the gate, which is handed back. Where there is no room for the
-/// link, its connection is closed.
+/// Answers one request over the link of a connection, waited for by the gate, which is handed back. Where there is no room
+/// for the link, its connection is closed.
 fn serve_one<G: Gate + Drop>(
     alloc: Global,
     shared: &Shared<'_>,
@@ -36,9 +32,10 @@ fn serve_one<G: Gate + Drop>(
     link: G::L,
 ) -> G {
     match AwaitedLink::new(alloc, gate, link) {
-        Ok(mut link) => {
+        Ok(link) => {
+            let mut link = SingleLink::new(link);
             serve_link(alloc, shared, node, &mut link);
-            link.into_gate()
+            link.into_link().into_gate()
         }
         Err(gate) => gate,
     }
@@ -50,11 +47,11 @@ fn accept_links<R: Wait, D: Door>(
     shared: &Shared<'_>,
     node: &mut LoopNode,
     door: &mut D,
-) -> u8
-    ensures { HasServed (D.view door.old) (D.view door.new) result }
+) -> NodeEnd
+    ensures { HasServed (D.view door.old) (D.view door.new) (code result) }
 {
     let Ok(mut gate) = door.gate() else {
-        return DOOR_FAILED;
+        return NodeEnd::DoorFailed;
     };
     let mut nodes = door.nodes();
     let mut clock = door.clock();
@@ -63,8 +60,8 @@ fn accept_links<R: Wait, D: Door>(
         last = beat_between(alloc, shared, &mut nodes, &mut clock, last);
         match door.accept() {
             Ok(Some(link)) => gate = serve_one(alloc, shared, node, gate, link),
-            Ok(None) => return CLOSED,
-            Err(_) => return DOOR_FAILED,
+            Ok(None) => return NodeEnd::Closed,
+            Err(_) => return NodeEnd::DoorFailed,
         }
     }
     unreachable!()
@@ -77,10 +74,10 @@ pub(crate) fn serve_links<R: Wait, D: Door>(
     shared: &Shared<'_>,
     node: &mut LoopNode,
     door: &mut D,
-) -> u8
-    ensures { HasServed (D.view door.old) (D.view door.new) result }
+) -> NodeEnd
+    ensures { HasServed (D.view door.old) (D.view door.new) (code result) }
 {
-    let status = accept_links(rt, alloc, shared, node, door);
+    let end = accept_links(rt, alloc, shared, node, door);
     shared.closed.store(true, Ordering::SeqCst);
-    status
+    end
 }

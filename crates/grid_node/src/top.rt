@@ -5,11 +5,12 @@ ghost use Rattle.grid_outside.specs.Counts.{Rose};
 ghost use Rattle.server_words.specs.NodeOptions.{FitsNode, node_said};
 ghost use Rattle.node_signs.specs.Signs.{registration_bytes};
 ghost use Rattle.grid_node.specs.Registration.{node_registration};
-ghost use Rattle.grid_node.specs.Statuses.{HasServed, HasRun};
+ghost use Rattle.grid_node.specs.Statuses.{HasRun, HasServed, code};
 
 use crate::beating::{Shared, keep_beating, registered};
+use crate::node_end::NodeEnd;
 use crate::registering::{VERSION, registration};
-use crate::serving::{DOOR_FAILED, serve_links};
+use crate::serving::serve_links;
 use grid_outside::{Clock, Door, NodeLink};
 use grid_types::{Bytes, NoMemory, NodeAddress, Text};
 use loop_node::LoopNode;
@@ -19,12 +20,6 @@ use std::alloc::Global;
 use std::sync::Wait;
 use std::sync::atomic::{AtomicBool, AtomicU32};
 use std::thread::{Threads, join};
-
-/// The words don't fit.
-const REFUSED: u8 = 2;
-
-/// Out of memory.
-const NO_MEMORY: u8 = 5;
 
 /// Ends a loan.
 fn take_back<T>(x: &mut T)
@@ -45,24 +40,24 @@ fn serve_beside_beats<
     mut clock: C,
     mut node: LoopNode,
     door: &mut D,
-) -> u8
-    ensures { HasServed (D.view door.old) (D.view door.new) result }
+) -> NodeEnd
+    ensures { HasServed (D.view door.old) (D.view door.new) (code result) }
 {
     let lent = &mut *door;
-    let (_, (lent, status)) = join(
+    let (_, (lent, end)) = join(
         rt,
         move || keep_beating(rt, alloc, shared, &mut nodes, &mut clock),
-        move || -> (&mut D, u8)
+        move || -> (&mut D, NodeEnd)
             ensures { (result.0.ghost_name ≡ lent.entry.ghost_name)
-                × HasServed (D.view lent.entry.now) (D.view result.0.now) result.1 }
+                × HasServed (D.view lent.entry.now) (D.view result.0.now) (code result.1) }
         {
-            let status = serve_links(rt, alloc, shared, &mut node, lent);
-            (lent, status)
+            let end = serve_links(rt, alloc, shared, &mut node, lent);
+            (lent, end)
         },
     );
     // For the proof alone: the loan of the door ends here.
     take_back(lent);
-    status
+    end
 }
 
 /// How many slots the node has; the words give at most 64.
@@ -97,8 +92,8 @@ fn serve_registered<R: Threads + Wait + Sync, D: Door>(
     beats: &[u8],
     mut node: LoopNode,
     door: &mut D,
-) -> u8
-    ensures { HasServed (D.view door.old) (D.view door.new) result }
+) -> NodeEnd
+    ensures { HasServed (D.view door.old) (D.view door.new) (code result) }
 {
     let mut nodes = door.nodes();
     let mut clock = door.clock();
@@ -124,25 +119,25 @@ fn run<R: Threads + Wait + Sync, D: Door>(
     alloc: Global,
     words: &NodeWords,
     door: &mut D,
-) -> u8
-    ensures { HasRun words.now.port (D.view door.old) (D.view door.new) result }
+) -> NodeEnd
+    ensures { HasRun words.now.port (D.view door.old) (D.view door.new) (code result) }
 {
     let slots = slots_of(words);
     let Ok(body) = body_of(alloc, words, slots) else {
-        return NO_MEMORY;
+        return NodeEnd::NoMemory;
     };
     let Ok(beats) = beat_body(alloc, words.name.as_str()) else {
-        return NO_MEMORY;
+        return NodeEnd::NoMemory;
     };
     let Ok(node) = node_of(alloc, words, slots) else {
-        return NO_MEMORY;
+        return NodeEnd::NoMemory;
     };
     match door.bind(words.port) {
         Ok(()) => {
             let (body, beats) = (body.as_bytes(), beats.as_bytes());
             serve_registered(rt, alloc, words.hub, body, beats, node, door)
         }
-        Err(_) => DOOR_FAILED,
+        Err(_) => NodeEnd::DoorFailed,
     }
 }
 
@@ -171,8 +166,8 @@ pub fn node_main<R: Threads + Wait + Sync, D: Door>(
     ensures statuses { (result ≡ 0) ⊎ ((result ≡ 2) ⊎ ((result ≡ 3) ⊎ (result ≡ 5))) }
 {
     match node_words(alloc, words) {
-        Ok(words) => run(rt, alloc, &words, door),
-        Err(WordsFault::Refused) => REFUSED,
-        Err(WordsFault::Memory) => NO_MEMORY,
+        Ok(words) => run(rt, alloc, &words, door).code(),
+        Err(WordsFault::Refused) => NodeEnd::Refused.code(),
+        Err(WordsFault::Memory) => NodeEnd::NoMemory.code(),
     }
 }

@@ -5,7 +5,9 @@ ghost use Rattle.grid_outside.specs.Exchanges.{is_within};
 use crate::connections::{Stop, fault_of};
 use crate::late::{Lates, keep_late};
 use crate::machine::shown;
-use crate::under_way::{Seen, UnderWay};
+use crate::spares::{Spares, keep};
+use crate::under_way::UnderWay;
+use crate::ways::Seen;
 use grid_outside::{ExchangeFault, NodeLine, Reply};
 use grid_types::NodeAddress;
 use http_frames::NodeRequest;
@@ -15,8 +17,9 @@ use std::net::Net;
 use std::sync::Arc;
 use std::time;
 
-/// Reaches nodes at `host:port`, with one connection for each exchange, of which no call waits. The host may be a name: such
-/// an address is looked up where an exchange is begun, and that call may wait, while one of digits never does.
+/// Reaches nodes at `host:port`, and no call waits. A start has a connection of its own; any other exchange may go over one that an
+/// exchange left open, and else has its own. The host may be a name: such an address is looked up where a connection is begun, and
+/// that call may wait, while one of digits never does.
 #[derive(Drop)]
 pub struct TcpNodeLine<R: Net + time::Clock + Drop> {
     runtime: R,
@@ -27,17 +30,20 @@ pub struct TcpNodeLine<R: Net + time::Clock + Drop> {
     allowed: u64,
     /// Starts that were given up; None where there is no memory for their list.
     lates: Option<Lates>,
+    /// Connections that exchanges left open; None where there is no memory for their list.
+    spares: Option<Spares>,
     faults: u64,
 }
 
 impl<R: Net + time::Clock + Drop> TcpNodeLine<R> {
     /// No exchange is under way. The streams of its exchanges are told of under the token; without a registry there is no
-    /// memory for any. Starts that it gives up go to the list.
+    /// memory for any. Starts that it gives up go to the one list, connections that it leaves open to the other.
     pub(crate) fn new(
         runtime: R,
         registry: Option<Arc<Registry>>,
         token: Token,
         lates: Option<Lates>,
+        spares: Option<Spares>,
     ) -> Self
         ensures idle { result.under ≡ None }
         ensures faults { result.faults ≡ 0 }
@@ -49,6 +55,7 @@ impl<R: Net + time::Clock + Drop> TcpNodeLine<R> {
             under: None,
             allowed: u64::MAX,
             lates,
+            spares,
             faults: 0,
         }
     }
@@ -65,11 +72,23 @@ impl<R: Net + time::Clock + Drop> TcpNodeLine<R> {
             token: self.token,
         };
         match under.advance(&self.runtime, seen, alloc) {
-            Ok(Some(reply)) => Ok(Ok(reply)),
+            Ok(Some(reply)) => {
+                self.let_go(seen, under);
+                Ok(Ok(reply))
+            }
             Ok(None) => Ok(Err(under)),
             Err(stop) => {
                 self.give_up(registry, under);
                 Err(stop)
+            }
+        }
+    }
+
+    /// Lets go of an exchange that is over, and keeps its connection where it left it open.
+    fn let_go(&self, seen: Seen<'_>, under: UnderWay) {
+        if let Some(spares) = &self.spares {
+            if let Some(spare) = under.into_spare(seen, shown(&self.runtime)) {
+                keep(spares, spare);
             }
         }
     }
@@ -114,7 +133,15 @@ impl<R: Net + time::Clock + Drop> NodeLine for TcpNodeLine<R> {
                     registry,
                     token: self.token,
                 };
-                UnderWay::begin(&self.runtime, seen, alloc, address, request, allowed)
+                UnderWay::begin(
+                    &self.runtime,
+                    seen,
+                    alloc,
+                    address,
+                    request,
+                    allowed,
+                    self.spares.as_ref(),
+                )
             }
             None => Err(Stop::Memory),
         });

@@ -7,6 +7,7 @@ use crate::late::{LATE, Lates, lates, sweep_late};
 use crate::lines::TcpLine;
 use crate::machine::{MachineClock, shown};
 use crate::parting::{Partings, partings, sweep};
+use crate::spares::{Spares, spares, sweep_spares};
 use grid_outside::{Failed, Gate};
 use mio::{Events, Poll, Registry, Token, Waker};
 use std::alloc::Global;
@@ -27,6 +28,9 @@ const SWEEP_MS: u64 = 10;
 /// How often starts that were given up are read on, in milliseconds.
 const SWEEP_LATE_MS: u64 = 200;
 
+/// How often it is seen which kept connections are to be closed, in milliseconds.
+const SWEEP_SPARES_MS: u64 = 100;
+
 /// The place of the bell, at which no seat stands.
 const BELL: usize = usize::MAX;
 
@@ -44,6 +48,8 @@ pub struct TcpGate<R: Net + time::Clock + Copy + Drop> {
     swept: u64,
     lates: Lates,
     swept_late: u64,
+    spares: Spares,
+    swept_spares: u64,
     dues: Dues,
 }
 
@@ -65,6 +71,8 @@ impl<R: Net + time::Clock + Copy + Drop> TcpGate<R> {
             swept: 0,
             lates: lates(alloc)?,
             swept_late: 0,
+            spares: spares(alloc)?,
+            swept_spares: 0,
             dues: dues(alloc)?,
         })
     }
@@ -75,8 +83,7 @@ impl<R: Net + time::Clock + Copy + Drop> TcpGate<R> {
     }
 
     /// Reads connections on that part, and says whether any is left.
-    fn parts(&mut self) -> bool {
-        let now = shown(&self.runtime);
+    fn parts(&mut self, now: u64) -> bool {
         if now < self.swept.saturating_add(SWEEP_MS) {
             return true;
         }
@@ -85,8 +92,7 @@ impl<R: Net + time::Clock + Copy + Drop> TcpGate<R> {
     }
 
     /// Reads starts on that were given up, and says whether any is left.
-    fn is_late(&mut self) -> bool {
-        let now = shown(&self.runtime);
+    fn is_late(&mut self, now: u64) -> bool {
         if now < self.swept_late.saturating_add(SWEEP_LATE_MS) {
             return true;
         }
@@ -94,15 +100,30 @@ impl<R: Net + time::Clock + Copy + Drop> TcpGate<R> {
         sweep_late(&self.lates, &self.runtime, &self.registry, self.alloc)
     }
 
-    /// How long the system may be asked, in milliseconds: until something is to be read on.
+    /// Closes kept connections whose time is over, and says whether any is left.
+    fn keeps(&mut self, now: u64) -> bool {
+        if now < self.swept_spares.saturating_add(SWEEP_SPARES_MS) {
+            return true;
+        }
+        self.swept_spares = now;
+        sweep_spares(&self.spares, now)
+    }
+
+    /// How long the system may be asked, in milliseconds: until something is to be seen to.
     fn longest_wait(&mut self) -> u64 {
-        let parts = self.parts();
-        let is_late = self.is_late();
-        let holds = name_due(&self.dues, shown(&self.runtime), &mut self.named);
-        match (parts || holds, is_late) {
-            (true, _) => SWEEP_MS,
-            (false, true) => SWEEP_LATE_MS,
-            (false, false) => LONGEST_WAIT_MS,
+        let now = shown(&self.runtime);
+        let parts = self.parts(now);
+        let is_late = self.is_late(now);
+        let keeps = self.keeps(now);
+        let holds = name_due(&self.dues, now, &mut self.named);
+        if parts || holds {
+            SWEEP_MS
+        } else if keeps {
+            SWEEP_SPARES_MS
+        } else if is_late {
+            SWEEP_LATE_MS
+        } else {
+            LONGEST_WAIT_MS
         }
     }
 
@@ -177,6 +198,7 @@ impl<R: Net + time::Clock + Copy + Send + Drop> Gate for TcpGate<R> {
             self.registry.clone().ok(),
             Token(place),
             self.lates.clone().ok(),
+            self.spares.clone().ok(),
         )
     }
 }

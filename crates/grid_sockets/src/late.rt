@@ -3,7 +3,8 @@
 //! A node may make a session after all whose start was given up, and then nobody knows of it. So the stream is read on for a
 //! while, and where a session comes, its node is asked to end it. Nobody is told what comes of that.
 
-use crate::under_way::{Seen, UnderWay};
+use crate::under_way::UnderWay;
+use crate::ways::Seen;
 use grid_outside::Reply;
 use http_frames::NodeReply;
 use mio::{Registry, Token};
@@ -77,7 +78,8 @@ impl Late {
         let path = SessionPath::of(&session);
         let request = quit_request(path.as_bytes());
         let seen = seen_by(registry);
-        UnderWay::begin(runtime, seen, alloc, self.under.address(), &request, END_MS).ok()
+        let address = self.under.address();
+        UnderWay::begin(runtime, seen, alloc, address, &request, END_MS, None).ok()
     }
 
     /// Goes on as far as that can be done now, and says whether it is over.

@@ -7,6 +7,9 @@
 //!   the exchange was allowed to take. A later call fails, so it counts as a fault; no contract speaks of it. Where no call waits, it is the next call that finds this: whoever drives such lines tries each now and then.
 //! - A start that is given up because its time is over is read on for up to 600 s from its beginning, beside all else: where its
 //!   node made the session after all, the node is asked to end it.
+//! - A connection to a node is kept for up to a second behind a reply that leaves it open, and any exchange but a start may go over
+//!   it. It is looked at first: one that its node has closed is let go with not a byte sent. Where it breaks before a byte of the
+//!   reply came, `GET` and `DELETE` are sent once more over a new one; nothing else is, so that no node is asked twice.
 //! - Where a client sends nothing more, and an answer comes 5 ms or more after its last byte, the last byte of the answer is held
 //!   back for 100 ms: where the client was ended its system refuses the others, and the write fails. So a session that was created
 //!   for it is ended. Whoever only shut its writing half down has its answer then.
@@ -28,7 +31,9 @@ mod lines;
 mod machine;
 mod parting;
 mod silence;
+mod spares;
 mod under_way;
+mod ways;
 
 pub use connections::TcpNodes;
 pub use door::TcpDoor;

@@ -1,18 +1,25 @@
 //! One exchange with a node over TCP, of which no call waits.
-ghost use Rattle.std.specs.Prelude.{IfOk, IfSome, IsTrue};
+//!
+//! A start goes over a connection of its own, which is closed behind it. Any other request may go over one that is kept, and may
+//! leave one that is. A node may close a connection while a request is on its way to it, and then nobody knows whether it took the
+//! request: where no byte of a reply came, `GET` and `DELETE` are sent once more over a connection of their own, since that changes
+//! nothing (RFC 9110, section 9.2.2), and nothing else is.
+ghost use Rattle.std.specs.Prelude.{◌≡◌, ◌⊎◌, true, IfOk, IfSome, IsTrue, codes};
 ghost use Rattle.grid_outside.specs.Exchanges.{is_within};
 
 use crate::connections::{Stop, not_http};
 use crate::machine::shown;
 use crate::silence::Silence;
+use crate::spares::{Spare, Spares};
+use crate::ways::{Seen, Way, both};
 use grid_outside::{PIECE_BYTES, Reply};
 use grid_types::{Bytes, NodeAddress};
-use http_frames::{LIMITS, NodeRequest, RStep, next_response, write_request};
-use mio::net::TcpStream;
-use mio::{Interest, Registry, Token};
+use http_frames::{
+    LIMITS, NodeRequest, RStep, next_response, stays_open, write_open_request, write_request,
+};
 use std::alloc::Global;
 use std::io::{ErrorKind, Read, Write};
-use std::net::{Net, SocketAddr, ToSocketAddrs};
+use std::net::Net;
 use std::time;
 
 /// How long a node may take to be connected, in milliseconds.
@@ -24,6 +31,9 @@ const QUIET_MS: u64 = 600_000;
 /// The same where the hub itself ends a session.
 const QUIT_QUIET_MS: u64 = 30_000;
 
+/// The room for what is read first, which most replies fit in.
+const FIRST_BYTES: usize = 2_048;
+
 /// The most pieces that are read in a row, so that no node holds up the others of its thread.
 const PIECES: u32 = 16;
 
@@ -33,22 +43,20 @@ const LARGE: usize = 1_048_576;
 /// The head and the body of the largest reply that isn't in chunks.
 const LARGEST: usize = (LIMITS.head as u64 + LIMITS.body) as usize;
 
-/// Where a node is tried, in order, and how many of these were.
-#[derive(Drop)]
-struct Places {
-    all: Vec<SocketAddr>,
-    tried: usize,
-}
-
-/// An exchange under way, over a connection of its own.
+/// An exchange under way.
 #[derive(Drop)]
 pub(crate) struct UnderWay {
     address: NodeAddress,
     /// Whether a session is to be started by it.
     starts: bool,
-    stream: TcpStream,
-    places: Places,
-    /// What is to be sent; nothing any more once all of it was.
+    /// Whether its request may be sent once more.
+    repeats: bool,
+    /// Whether its connection may be kept behind it, as far as the hub is concerned.
+    keeps: bool,
+    /// Whether its reply leaves the connection open, with nothing more to come over it.
+    leaves_open: bool,
+    way: Way,
+    /// What is to be sent; nothing any more once all of it was, and need not be sent again.
     request: Bytes,
     is_sent: bool,
     sent: usize,
@@ -71,18 +79,6 @@ enum Heard {
     Broken,
 }
 
-/// Where the readiness of a node's stream is told.
-#[derive(Clone, Copy)]
-pub(crate) struct Seen<'a> {
-    pub(crate) registry: &'a Registry,
-    pub(crate) token: Token,
-}
-
-/// The interest of a stream that is read and written.
-fn both() -> Interest {
-    Interest::READABLE | Interest::WRITABLE
-}
-
 /// How long the node may be quiet. The hub's own `DELETE` is told by its having no headers of a client.
 fn quiet_ms_of(request: &NodeRequest<'_>) -> u64 {
     let has_headers = request.accept.is_some() || request.content_type.is_some();
@@ -98,41 +94,32 @@ fn is_start(request: &NodeRequest<'_>) -> bool {
     request.method == b"POST".as_slice() && request.target == b"/session".as_slice()
 }
 
-impl Places {
-    /// All places of the address. One of digits is at hand; a name is looked up, and that may wait.
-    fn of<R: Net>(net: &R, alloc: Global, address: &NodeAddress) -> Result<Places, Stop> {
-        let Ok(text) = str::from_utf8(address.as_bytes()) else {
-            return Err(Stop::Failed);
-        };
-        let mut all = Vec::new(alloc);
-        for place in text.to_socket_addrs(net)? {
-            if all.push(place).is_err() {
-                return Err(Stop::Memory);
-            }
-        }
-        Ok(Places { all, tried: 0 })
-    }
+/// Whether it changes nothing that the request is sent once more.
+fn may_repeat(request: &NodeRequest<'_>) -> bool
+    ensures { result ≡ true → (request.now.method.now ≡ codes "GET")
+        ⊎ (request.now.method.now ≡ codes "DELETE") }
+{
+    request.method == b"GET".as_slice() || request.method == b"DELETE".as_slice()
+}
 
-    /// A stream to the next place that can be tried.
-    fn next_stream<R: Net>(&mut self, net: &R, seen: Seen<'_>) -> Result<TcpStream, Stop> {
-        for _ in 0..self.all.len() {
-            let Some(place) = self.all.get(self.tried) else {
-                return Err(Stop::Failed);
-            };
-            let connected = TcpStream::connect(net, *place);
-            self.tried = self.tried.saturating_add(1);
-            if let Ok(mut stream) = connected {
-                let _ = stream.set_nodelay(true);
-                seen.registry.register(&mut stream, seen.token, both())?;
-                return Ok(stream);
-            }
-        }
-        Err(Stop::Failed)
+/// The bytes of the request. One whose connection may be kept doesn't ask to close it.
+fn written(
+    alloc: Global,
+    address: &NodeAddress,
+    request: &NodeRequest<'_>,
+    keeps: bool,
+) -> Result<Bytes, Stop> {
+    let address = address.as_bytes();
+    if keeps {
+        Ok(write_open_request(alloc, address, request)?)
+    } else {
+        Ok(write_request(alloc, address, request)?)
     }
 }
 
 impl UnderWay {
-    /// Begins an exchange, which may take so many milliseconds: its connection is on its way.
+    /// Begins an exchange, which may take so many milliseconds. Where there are spare connections it goes over one of them, but
+    /// for a start; else its own connection is on its way.
     pub(crate) fn begin<R: Net + time::Clock>(
         runtime: &R,
         seen: Seen<'_>,
@@ -140,16 +127,24 @@ impl UnderWay {
         address: &NodeAddress,
         request: &NodeRequest<'_>,
         allowed: u64,
+        spares: Option<&Spares>,
     ) -> Result<UnderWay, Stop> {
         let began = shown(runtime);
-        let bytes = write_request(alloc, address.as_bytes(), request)?;
-        let mut places = Places::of(runtime, alloc, address)?;
-        let stream = places.next_stream(runtime, seen)?;
+        let starts = is_start(request);
+        let spares = if starts { None } else { spares };
+        let keeps = spares.is_some();
+        let bytes = written(alloc, address, request, keeps)?;
+        let way = match spares {
+            Some(spares) => Way::spare_or_own(runtime, seen, alloc, address, spares, began)?,
+            None => Way::own(runtime, seen, alloc, address)?,
+        };
         Ok(UnderWay {
             address: *address,
-            starts: is_start(request),
-            stream,
-            places,
+            starts,
+            repeats: may_repeat(request),
+            keeps,
+            leaves_open: false,
+            way,
             request: bytes,
             is_sent: false,
             sent: 0,
@@ -161,12 +156,22 @@ impl UnderWay {
         })
     }
 
-    /// Goes to the next place, where no byte of the request was taken.
-    fn go_on_elsewhere<R: Net>(&mut self, net: &R, seen: Seen<'_>) -> Result<(), Stop> {
-        if self.sent > 0 {
+    /// Whether the request may be sent over another connection once this one broke: no byte of it was taken, or it changes
+    /// nothing that it is sent twice, and the node may have let go of the connection before it came.
+    fn may_go_elsewhere(&self) -> bool
+        ensures { result ≡ true → (self.now.sent ≡ 0) ⊎ (self.now.repeats ≡ true) }
+    {
+        self.sent == 0 || (self.repeats && self.way.is_spare() && self.reply.is_empty())
+    }
+
+    /// Goes over another connection, where it may.
+    fn go_elsewhere<R: Net>(&mut self, net: &R, seen: Seen<'_>, alloc: Global) -> Result<(), Stop> {
+        if !self.may_go_elsewhere() {
             return Err(Stop::Failed);
         }
-        self.stream = self.places.next_stream(net, seen)?;
+        self.way.next(net, seen, alloc, &self.address)?;
+        self.is_sent = false;
+        self.sent = 0;
         self.silence.end();
         Ok(())
     }
@@ -181,30 +186,29 @@ impl UnderWay {
         self.silence.has_lasted(now, limit) || now >= self.until
     }
 
-    /// The whole request was sent: its bytes are let go.
+    /// The whole request was sent: its bytes are let go, unless they may be sent again.
     fn ends_sending(&mut self, alloc: Global) {
         self.is_sent = true;
-        self.request = Bytes::from_vec(Vec::new(alloc));
+        if !self.may_go_elsewhere() {
+            self.request = Bytes::from_vec(Vec::new(alloc));
+        }
     }
 
-    /// Sends what can be sent now, and says whether the whole request was.
+    /// Sends what can be sent now.
     fn send<R: Net>(
         &mut self,
         net: &R,
         seen: Seen<'_>,
         alloc: Global,
         now: u64,
-    ) -> Result<bool, Stop> {
-        if self.is_sent {
-            return Ok(true);
-        }
+    ) -> Result<(), Stop> {
         for _ in 0..u64::MAX {
             let bytes = self.request.as_bytes();
             if self.sent >= bytes.len() {
                 self.ends_sending(alloc);
-                return Ok(true);
+                return Ok(());
             }
-            match self.stream.write(&bytes[self.sent..]) {
+            match self.way.stream.write(&bytes[self.sent..]) {
                 Ok(0) => return Err(Stop::Failed),
                 Ok(count) => {
                     self.sent = self.sent.saturating_add(count);
@@ -213,9 +217,12 @@ impl UnderWay {
                 Err(error) => {
                     let waits = error.kind() == ErrorKind::WouldBlock;
                     if waits && !self.is_late(now) {
-                        return Ok(false);
+                        return Ok(());
                     }
-                    self.go_on_elsewhere(net, seen)?;
+                    if waits && self.sent > 0 {
+                        return Err(Stop::Failed);
+                    }
+                    self.go_elsewhere(net, seen, alloc)?;
                 }
             }
         }
@@ -230,48 +237,88 @@ impl UnderWay {
         }
     }
 
+    /// Reads once. A piece that isn't filled is most likely all that is there.
+    fn hear_piece(&mut self, piece: &mut [u8]) -> Result<Option<Heard>, Stop> {
+        match self.way.stream.read(piece) {
+            Ok(0) => Ok(Some(Heard::End)),
+            Ok(count) => {
+                self.reply.extend_from_slice(&piece[..count])?;
+                self.silence.end();
+                Ok(if count < piece.len() {
+                    Some(Heard::More)
+                } else {
+                    None
+                })
+            }
+            Err(error) if error.kind() == ErrorKind::WouldBlock => Ok(Some(Heard::NotNow)),
+            Err(_) => Ok(Some(Heard::Broken)),
+        }
+    }
+
     /// Reads some of what is there now.
     fn hear(&mut self) -> Result<Heard, Stop> {
+        if self.reply.is_empty() {
+            if let Some(heard) = self.hear_piece(&mut [0; FIRST_BYTES])? {
+                return Ok(heard);
+            }
+        }
+        self.hear_more()
+    }
+
+    /// Reads more of a reply that doesn't come in one small piece.
+    fn hear_more(&mut self) -> Result<Heard, Stop> {
         let mut piece = [0; PIECE_BYTES];
         self.make_room();
         for _ in 0..PIECES {
-            match self.stream.read(&mut piece) {
-                Ok(0) => return Ok(Heard::End),
-                Ok(count) => {
-                    self.reply.extend_from_slice(&piece[..count])?;
-                    self.silence.end();
-                }
-                Err(error) => {
-                    return Ok(if error.kind() == ErrorKind::WouldBlock {
-                        Heard::NotNow
-                    } else {
-                        Heard::Broken
-                    });
-                }
+            if let Some(heard) = self.hear_piece(&mut piece)? {
+                return Ok(heard);
             }
         }
         Ok(Heard::More)
     }
 
     /// The reply, where it is whole or none can come of the bytes: also one that is cut off by the end of input.
-    fn receive(&mut self, seen: Seen<'_>, alloc: Global, now: u64) -> Result<Option<Reply>, Stop>
+    fn receive<R: Net>(
+        &mut self,
+        net: &R,
+        seen: Seen<'_>,
+        alloc: Global,
+        now: u64,
+    ) -> Result<Option<Reply>, Stop>
         ensures { IfOk result (λ came. IfSome came (λ reply. IsTrue (is_within reply))) }
     {
         let before = self.reply.len();
         let heard = self.hear()?;
-        if heard == Heard::NotNow && self.reply.len() == before {
-            return if self.is_late(now) {
-                Err(Stop::Failed)
-            } else {
-                Ok(None)
-            };
-        }
         let ended = heard == Heard::End;
+        if self.reply.len() == before {
+            if heard == Heard::NotNow {
+                return if self.is_late(now) {
+                    Err(Stop::Failed)
+                } else {
+                    Ok(None)
+                };
+            }
+            if (ended || heard == Heard::Broken) && self.may_go_elsewhere() {
+                self.go_elsewhere(net, seen, alloc)?;
+                return Ok(None);
+            }
+        }
         match next_response(alloc, self.reply.as_slice(), ended, LIMITS)? {
-            RStep::Whole(reply, _) => Ok(Some(Reply::Http(reply))),
+            RStep::Whole(reply, len) => {
+                self.ends_with(len, ended);
+                Ok(Some(Reply::Http(reply)))
+            }
             RStep::NotHttp => Ok(Some(not_http(alloc, self.reply.as_slice())?)),
             RStep::More => self.go_on(seen, heard),
         }
+    }
+
+    /// The reply has so many bytes of those that came.
+    fn ends_with(&mut self, len: usize, ended: bool) {
+        self.leaves_open = self.keeps
+            && !ended
+            && len == self.reply.len()
+            && stays_open(self.reply.as_slice(), LIMITS);
     }
 
     /// Awaits more, where more may come. Where more is there already, it is told of once more.
@@ -283,7 +330,7 @@ impl UnderWay {
         }
         if heard == Heard::More {
             seen.registry
-                .reregister(&mut self.stream, seen.token, both())?;
+                .reregister(&mut self.way.stream, seen.token, both())?;
         }
         Ok(None)
     }
@@ -298,17 +345,48 @@ impl UnderWay {
         self.starts && self.is_sent && now >= self.until
     }
 
+    /// Its connection, where that is kept behind the reply; it was told of under the token.
+    pub(crate) fn into_spare(self, seen: Seen<'_>, now: u64) -> Option<Spare> {
+        if !self.leaves_open {
+            return None;
+        }
+        let address = self.address;
+        let stream = self.into_stream();
+        Some(Spare::of(address, stream, seen.token, now))
+    }
+
+    /// Its stream alone.
+    fn into_stream(self) -> mio::net::TcpStream {
+        let UnderWay {
+            address: _,
+            starts: _,
+            repeats: _,
+            keeps: _,
+            leaves_open: _,
+            way,
+            request: _,
+            is_sent: _,
+            sent: _,
+            reply: _,
+            quiet_ms: _,
+            silence: _,
+            began: _,
+            until: _,
+        } = self;
+        way.into_stream()
+    }
+
     /// Lets it go on until so many milliseconds after it began; its stream is told of under this token from now on. False: the
     /// system refuses that.
     pub(crate) fn prolong(&mut self, seen: Seen<'_>, ms: u64) -> bool {
         self.until = self.began.saturating_add(ms);
         self.silence.end();
         seen.registry
-            .reregister(&mut self.stream, seen.token, both())
+            .reregister(&mut self.way.stream, seen.token, both())
             .is_ok()
     }
 
-    /// Does what can be done now.
+    /// Does what can be done now. A reply is looked for only once it may be there: the gate tells of it.
     pub(crate) fn advance<R: Net + time::Clock>(
         &mut self,
         runtime: &R,
@@ -318,10 +396,10 @@ impl UnderWay {
         ensures { IfOk result (λ came. IfSome came (λ reply. IsTrue (is_within reply))) }
     {
         let now = shown(runtime);
-        if self.send(runtime, seen, alloc, now)? {
-            self.receive(seen, alloc, now)
-        } else {
-            Ok(None)
+        if self.is_sent {
+            return self.receive(runtime, seen, alloc, now);
         }
+        self.send(runtime, seen, alloc, now)?;
+        Ok(None)
     }
 }

@@ -8,6 +8,8 @@ mod clocks;
 #[cfg(test)]
 mod doors;
 #[cfg(test)]
+mod kept;
+#[cfg(test)]
 mod late;
 #[cfg(test)]
 mod lines;

@@ -1,5 +1,5 @@
 use Rattle.std.proofs.Common.{◌≤◌}
-use Rattle.grid_node.specs.Statuses.{NoneFell}
+use Rattle.grid_outside.specs.Told.{NoneFell}
 use Rattle.grid_node.proofs.serving.accept_links.Given as goal
 
 -- no count fell, and the door is bound where it was
