@@ -3,3 +3,4 @@ mod SumLemmas
 mod LineLemmas
 mod LogLemmas
 mod AsciiNames
+mod FollowLemmas

@@ -1,10 +1,10 @@
 -- How a log goes on by one entry, and how it ends.
-use Rattle.std.proofs.Common.{◌≡◌, ℕ, ◌≤◌, List, [], ◌∷◌, refl, sym, ◌∙◌, ap, subst, arith}
-use Rattle.std.specs.Prelude.{Option}
+use Rattle.std.proofs.Common.{◌≡◌, ℕ, ◌≤◌, List, [], ◌∷◌, inl, inr, refl, sym, ◌∙◌, ap, subst, arith}
+use Rattle.std.specs.Prelude.{Option, Some}
 use Rattle.grid_types.specs.declared.config.HubConfig.{HubConfig}
 use Rattle.grid_types.specs.declared.entry.Entry.{Entry}
 use Rattle.grid_outside.specs.Counts.{Rose}
-use Rattle.grid_outside.specs.Told.{Gains}
+use Rattle.grid_outside.specs.Told.{Gains, TookFront}
 use Rattle.journal_reader.specs.declared.feed.ReadFault.{ReadFault}
 use Rattle.journal_reader.specs.declared.feed.ReadFault.TheVariants as read_fault
 use Rattle.journal_reader.specs.declared.reader.Ending.{Ending}
@@ -12,7 +12,7 @@ use Rattle.journal_reader.specs.declared.reader.JournalReader.{JournalReader}
 use Rattle.journal_reader.specs.declared.reader.Next.{Next}
 use Rattle.journal_reader.specs.declared.reader.Next.TheVariants as next
 use Rattle.journal_reader.specs.Feeds.{waiting}
-use Rattle.journal_reader.specs.Readings.{Told, Goes, HasBegun, HasRead}
+use Rattle.journal_reader.specs.Readings.{Told, Goes, HasBegun, HasRead, Stays}
 use Rattle.grid_log.specs.declared.form.Form.{Form}
 use Rattle.grid_log.specs.declared.log.Logging.{Logging}
 use Rattle.grid_log.specs.declared.log.Unlogged.{Unlogged}
@@ -22,7 +22,7 @@ use Rattle.grid_log.specs.Past.{Past, no_past, past_after, past_of}
 use Rattle.grid_log.specs.Recalls.{recalled}
 use Rattle.grid_log.specs.Facts.{first_line, lines}
 use Rattle.grid_log.specs.Events.{change_events, log_of}
-use Rattle.grid_log.specs.Logs.{Input, Output, LogEnds, journal_ended, read_failed, write_failed, no_memory, some_read, none_read, TookFront, ending_status, reading_of}
+use Rattle.grid_log.specs.Logs.{Input, Output, LogEnds, MayGoOn, journal_ended, read_failed, write_failed, no_memory, some_read, none_read, ending_status, reading_of}
 use Rattle.grid_log.specs.Logging.{HasLogged, HasNext, Stopped, fault_status, unlogged_status}
 use Rattle.grid_log.proofs.StreamLemmas.{front_behind, gains_more, rose_later}
 
@@ -41,11 +41,13 @@ gains_kept a b c xs gains same = subst (λ (t : Option (List ℕ)). Gains a t xs
 -- what the journal has next was read
 pub next_read : (old mid now : Input) (before after : Output) (logging new : Logging) (n : Next) → HasLogged old mid before after logging →
     ((start : Told) (H : List Entry) → HasRead start (reading_of mid) logging.reader H → Goes start (reading_of now) new.reader H n) →
+    ((start : Told) (H : List Entry) → HasRead start (reading_of mid) logging.reader H → Stays start (reading_of now) new.reader H n) →
     ((start : Told) (H : List Entry) → HasRead start (reading_of mid) logging.reader H → HasBegun start (reading_of now) logging.reader.config H) →
     new.reader.config ≡ logging.reader.config → new.past ≡ logging.past → new.teller ≡ logging.teller → mid.faults ≤ now.faults → HasNext old now before after new n
-next_read old mid now before after logging new n h goes begun config past teller faults = record {
+next_read old mid now before after logging new n h goes stays begun config past teller faults = record {
   history = h.history;
   goes = goes (reading_of old) h.history h.has_read;
+  stays = stays (reading_of old) h.history h.has_read;
   begun = subst (λ (c : HubConfig). HasBegun (reading_of old) (reading_of now) c h.history) (sym config) (begun (reading_of old) h.history h.has_read);
   is_written = record {
     past_is = ap recalled past ∙ h.is_written.past_is;
@@ -104,6 +106,28 @@ pub journal_told : (old now : Input) (before after : Output) (logging : Logging)
 journal_told old now before after logging n e has is =
     let h : HasNext old now before after logging (next.Ends e) = subst (λ (m : Next). HasNext old now before after logging m) is has in
     journal_ended logging.reader.config h.history e h.goes refl h.is_written.written
+
+-- it has been read as before
+pub journal_stays : (old now : Input) (before after : Output) (logging : Logging) (n : Next) (e : Ending) → HasNext old now before after logging n → n ≡ next.Ends e →
+    HasLogged old now before after logging
+journal_stays old now before after logging n e has is =
+    let h : HasNext old now before after logging (next.Ends e) = subst (λ (m : Next). HasNext old now before after logging m) is has in
+    record { history = h.history; has_read = h.stays; is_written = h.is_written }
+
+-- ---- the input is asked again
+
+-- no such status tells of an end of the input
+pub no_end_unlogged : (why : Unlogged) (said status : ℕ) → said ≡ unlogged_status why → Some said ≡ Some status → MayGoOn status → ⊥
+no_end_unlogged unlogged.Failed said status is same (inl h) = absurd (cc)
+no_end_unlogged unlogged.Failed said status is same (inr h) = absurd (cc)
+no_end_unlogged unlogged.Memory said status is same (inl h) = absurd (cc)
+no_end_unlogged unlogged.Memory said status is same (inr h) = absurd (cc)
+
+pub no_end_fault : (why : ReadFault) (said status : ℕ) → said ≡ fault_status why → Some said ≡ Some status → MayGoOn status → ⊥
+no_end_fault read_fault.Read said status is same (inl h) = absurd (cc)
+no_end_fault read_fault.Read said status is same (inr h) = absurd (cc)
+no_end_fault read_fault.Memory said status is same (inl h) = absurd (cc)
+no_end_fault read_fault.Memory said status is same (inr h) = absurd (cc)
 
 -- the same end, by the form and the status that are named
 pub ends_as : (old now : Input) (before after : Output) (f g : Form) (status other : ℕ) → LogEnds f old now before after status → g ≡ f → other ≡ status → LogEnds g old now before after other

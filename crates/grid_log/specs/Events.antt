@@ -1,9 +1,8 @@
 -- Which events an entry tells of to an operator, after the history before it.
-use Rattle.std.specs.Prelude.{ℕ, ◌-◌, ◌^◌, min, Bool, List, [], ◌∷◌, ◌++◌, map, filter, find, Option, None, Some, option_map, unwrap_or, codes, if◌then◌else◌}
+use Rattle.std.specs.Prelude.{ℕ, ◌-◌, Bool, List, [], ◌∷◌, ◌++◌, map, filter, find, Option, None, Some, option_map, unwrap_or, codes, if◌then◌else◌}
 use Rattle.std.specs.List.{slice_get}
 use Rattle.grid_types.specs.declared.capabilities.Cap.{Cap}
 use Rattle.grid_types.specs.declared.capabilities.Registration.{Registration}
-use Rattle.grid_types.specs.declared.capabilities.SlotGroup.{SlotGroup}
 use Rattle.grid_types.specs.declared.entry.Entry.{Entry}
 use Rattle.grid_types.specs.declared.entry.Change.{Change}
 use Rattle.grid_types.specs.declared.entry.Change.TheVariants as change
@@ -13,10 +12,10 @@ use Rattle.grid_types.specs.declared.entry.FailWhy.{FailWhy}
 use Rattle.grid_types.specs.declared.entry.FailWhy.TheVariants as why
 use Rattle.grid_types.specs.declared.names.SlotId.{SlotId}
 use Rattle.grid_types.specs.Capabilities.{text_at}
-use Rattle.grid_types.specs.Lists.{has, total}
+use Rattle.grid_types.specs.Lists.{has}
 use Rattle.grid_log.specs.declared.form.Form.{Form}
 use Rattle.grid_log.specs.declared.rows.SessionRow.{SessionRow}
-use Rattle.grid_log.specs.Past.{Past, is_clearing, is_of_binding, name_in, past_of, queued_in, runs_on}
+use Rattle.grid_log.specs.Past.{Past, is_clearing, is_of_binding, name_in, past_of, queued_in, runs_on, slots_in}
 use Rattle.grid_log.specs.Facts.{Event, first_line, lines, name, name_if, number, number_if, word}
 
 -- the name and the version of a browser that capabilities tell
@@ -31,10 +30,6 @@ abbrev pub since : ℕ → Option ℕ → Option ℕ
 since now = option_map (λ at. now - at)
 
 -- ---- nodes
-
--- how many slots the groups have, as far as 64 bits count
-abbrev pub slots_in : List SlotGroup → ℕ
-slots_in groups = min (total (λ group. group.count) groups) (2 ^ 64 - 1)
 
 abbrev pub registered_event : ℕ → Registration → ℕ → Event
 registered_event node registration at = record {

@@ -2,20 +2,20 @@
 use Rattle.std.specs.Prelude.{◌≡◌, ℕ, ◌≤◌, List, Option, None, Some}
 use Rattle.grid_types.specs.declared.entry.Entry.{Entry}
 use Rattle.grid_outside.specs.Counts.{Rose}
-use Rattle.grid_outside.specs.Told.{Gains}
+use Rattle.grid_outside.specs.Told.{Gains, TookFront}
 use Rattle.journal_reader.specs.declared.feed.ReadFault.{ReadFault}
 use Rattle.journal_reader.specs.declared.feed.ReadFault.TheVariants as fault
 use Rattle.journal_reader.specs.declared.reader.Next.{Next}
 use Rattle.journal_reader.specs.declared.reader.Next.TheVariants as next
 use Rattle.journal_reader.specs.declared.reader.Opened.{Opened}
-use Rattle.journal_reader.specs.Readings.{Goes, HasBegun, HasRead, Opens}
+use Rattle.journal_reader.specs.Readings.{Goes, HasBegun, HasRead, Opens, Stays}
 use Rattle.grid_log.specs.declared.log.Logging.{Logging}
 use Rattle.grid_log.specs.declared.log.Unlogged.{Unlogged}
 use Rattle.grid_log.specs.declared.log.Unlogged.TheVariants as unlogged
 use Rattle.grid_log.specs.Past.{past_of}
 use Rattle.grid_log.specs.Recalls.{recalled}
 use Rattle.grid_log.specs.Events.{log_of}
-use Rattle.grid_log.specs.Logs.{Input, Output, LogEnds, TookFront, reading_of}
+use Rattle.grid_log.specs.Logs.{Input, Output, LogEnds, reading_of}
 
 -- the log of a history was written, and neither count of faults fell
 pub record IsWritten (old now : Input) (before after : Output) (logging : Logging) (H : List Entry) : Type 0 where
@@ -34,6 +34,7 @@ pub record HasLogged (old now : Input) (before after : Output) (logging : Loggin
 pub record HasNext (old now : Input) (before after : Output) (logging : Logging) (next : Next) : Type 0 where
   pub history : List Entry
   pub goes : Goes (reading_of old) (reading_of now) logging.reader history next
+  pub stays : Stays (reading_of old) (reading_of now) logging.reader history next
   pub begun : HasBegun (reading_of old) (reading_of now) logging.reader.config history
   pub is_written : IsWritten old now before after logging history
 

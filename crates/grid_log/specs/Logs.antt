@@ -1,13 +1,14 @@
 -- How the writing of a log ends.
-use Rattle.std.specs.Prelude.{◌≡◌, ℕ, List, ◌++◌, Option}
+use Rattle.std.specs.Prelude.{◌≡◌, ◌⊎◌, ℕ, zero, suc, ◌+◌, ◌-◌, ◌^◌, ◌≤◌, List, Option, Some, IfSome}
 use Rattle.grid_types.specs.declared.config.HubConfig.{HubConfig}
 use Rattle.grid_types.specs.declared.entry.Entry.{Entry}
 use Rattle.grid_outside.specs.Counts.{Rose}
-use Rattle.grid_outside.specs.Told.{Gains}
+use Rattle.grid_outside.specs.Told.{ClockView, Gains, Pauses, TookFront, paused}
 use Rattle.journal_reader.specs.declared.reader.Ending.{Ending}
 use Rattle.journal_reader.specs.declared.reader.Ending.TheVariants as ending
 use Rattle.journal_reader.specs.Readings.{Told, HasBegun, HasEnded, IsCut, IsNone, told}
 use Rattle.grid_log.specs.declared.form.Form.{Form}
+use Rattle.grid_log.specs.declared.log.TheConstants.{PAUSE_MS}
 use Rattle.grid_log.specs.Events.{log_of}
 
 -- what an input tells
@@ -30,13 +31,6 @@ pub record Output : Type 0 where
 
 abbrev pub output_of : Option (List ℕ) → ℕ → Output
 output_of taken faults = record { taken = taken; faults = faults }
-
--- a front of the bytes was taken
-pub record TookFront (old new : Option (List ℕ)) (bytes : List ℕ) : Type 0 where
-  pub front : List ℕ
-  pub unwritten : List ℕ
-  pub are : front ++ unwritten ≡ bytes
-  pub gains : Gains old new front
 
 -- the status that tells how a journal ended
 abbrev pub ending_status : Ending → ℕ
@@ -63,3 +57,27 @@ pub data LogEnds (form : Form) (old new : Input) (before after : Output) (status
   write_failed : (c : HubConfig) (H : List Entry) → status ≡ 6 → Rose before.faults after.faults → HasBegun (reading_of old) (reading_of new) c H →
       TookFront before.taken after.taken (log_of form H) → LogEnds form old new before after status
   no_memory : status ≡ 7 → LoggedSoFar form old new before after → LogEnds form old new before after status
+
+-- the journal ended where its input ended, which may grow
+abbrev pub MayGoOn : ℕ → Type 0
+MayGoOn status = (status ≡ 0) ⊎ (status ≡ 3)
+
+-- the pauses with so many more, each as long as a log waits
+unfoldable pub waited : ℕ → Pauses → Pauses
+waited zero p = p
+waited (suc count) p = paused PAUSE_MS (waited count p)
+
+-- so many ends of the input were told in the meantime, or their count stands at its greatest value
+abbrev pub FoundEnds : ℕ → ℕ → ℕ → Type 0
+FoundEnds count before after = (before + count ≤ after) ⊎ (2 ^ 64 - 1 ≤ after)
+
+-- so many pauses were made, and no other, and the input was found at its end before each of them and behind the last
+pub record HasWaited (pauses : ℕ) (old new : Input) (before after : ClockView) : Type 0 where
+  pub paused_so : IfSome before.pauses (λ p. after.pauses ≡ Some (waited pauses p))
+  pub found_ends : FoundEnds (pauses + 1) old.ends new.ends
+
+-- a log ends where its input ends only behind so many pauses, but for an input that ends inside its head
+abbrev pub Waits : ℕ → Input → Input → ClockView → ClockView → ℕ → Type 0
+Waits pauses old new before after status =
+    MayGoOn status →
+    IsCut (reading_of old) (reading_of new) ⊎ HasWaited pauses old new before after

@@ -1,9 +1,11 @@
 -- What a log remembers of a history: which nodes are registered and which of them are suspect, which requests are not settled
 -- yet, and which sessions run, each list in order, the oldest first.
-use Rattle.std.specs.Prelude.{ℕ, Bool, false, not, ◌&&◌, nat_eq, List, [], ◌∷◌, ◌++◌, Option, None, Some, option_map, filter, find, if◌then◌else◌}
+use Rattle.std.specs.Prelude.{ℕ, ◌-◌, ◌^◌, min, Bool, false, not, ◌&&◌, nat_eq, List, [], ◌∷◌, ◌++◌, Option, None, Some, option_map, filter, find, if◌then◌else◌}
+use Rattle.grid_types.specs.declared.capabilities.SlotGroup.{SlotGroup}
 use Rattle.grid_types.specs.declared.entry.Entry.{Entry}
 use Rattle.grid_types.specs.declared.entry.Change.{Change}
 use Rattle.grid_types.specs.declared.entry.Change.TheVariants as change
+use Rattle.grid_types.specs.Lists.{total}
 use Rattle.grid_log.specs.declared.rows.Clearing.{Clearing}
 use Rattle.grid_log.specs.declared.rows.NodeRow.{NodeRow}
 use Rattle.grid_log.specs.declared.rows.WaitRow.{WaitRow}
@@ -22,10 +24,16 @@ is_of_binding binding row = nat_eq row.binding binding
 abbrev pub runs_on : ℕ → SessionRow → Bool
 runs_on node row = nat_eq row.slot.node node
 
+-- how many slots the groups have, as far as 64 bits count
+abbrev pub slots_in : List SlotGroup → ℕ
+slots_in groups = min (total (λ group. group.count) groups) (2 ^ 64 - 1)
+
 -- the nodes that are registered, after a change
 abbrev pub nodes_after : List NodeRow → Change → List NodeRow
 nodes_after rows (change.Registered node registration at) =
-    rows ++ record { node = node; name = registration.name } ∷ []
+    rows
+    ++ record { node = node; name = registration.name; slots = slots_in registration.groups }
+    ∷ []
 nodes_after rows (change.Removed node at) = filter (λ row. not (is_of_node node row)) rows
 nodes_after rows (change.Lapsed node at) = filter (λ row. not (is_of_node node row)) rows
 nodes_after rows other = rows

@@ -2,7 +2,8 @@
 ghost use Rattle.std.specs.Prelude.{◌≡◌, ℕ, find, bytes_eq, option_copied, unwrap_or, []};
 ghost use Rattle.std.specs.List.{slice_get};
 ghost use Rattle.grid_types.specs.Capabilities.{text_at};
-ghost use Rattle.grid_log.specs.Events.{browser_in, cause_word, node_words, since, slots_in, version_in, why_words};
+ghost use Rattle.grid_log.specs.Events.{browser_in, cause_word, node_words, since, version_in, why_words};
+ghost use Rattle.grid_log.specs.Past.{slots_in};
 
 use grid_types::{Cap, CapValue, Caps, Choices, EndCause, FailWhy, NodeAddress, SlotGroup};
 use std::str::from_utf8;

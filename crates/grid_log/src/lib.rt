@@ -17,8 +17,11 @@ mod recall;
 mod rows;
 mod telling;
 mod top;
-mod writing;
+mod words;
 
 pub use form::Form;
-pub use log::log_lines;
+pub use log::{CUT, NOT_JOURNAL, ending_status, fault_status, log_lines};
+pub use recall::Recall;
+pub use rows::{Clearing, NodeRow, SessionRow, WaitRow};
 pub use top::log_main;
+pub use words::AskedLog;

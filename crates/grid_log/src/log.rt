@@ -1,5 +1,5 @@
 //! The log of a journal, entry by entry.
-ghost use Rattle.std.specs.Prelude.{◌≡◌, ◌<◌, ◌≤◌, None, OnOk, IfErr};
+ghost use Rattle.std.specs.Prelude.{◌≡◌, ◌↔◌, ℕ, ◌<◌, ◌≤◌, true, None, Some, OnOk, IfErr};
 ghost use Rattle.grid_outside.specs.Told.{Gains};
 ghost use Rattle.journal_reader.specs.Readings.{Lessens, left_of};
 ghost use Rattle.journal_reader.specs.declared.reader.Opened.TheVariants as opened;
@@ -7,23 +7,25 @@ ghost use Rattle.grid_log.specs.Facts.{first_line, lines};
 ghost use Rattle.grid_log.specs.Events.{change_events};
 ghost use Rattle.grid_log.specs.Past.{past_after};
 ghost use Rattle.grid_log.specs.Recalls.{recalled};
-ghost use Rattle.grid_log.specs.Logs.{Input, Output, LogEnds, ending_status, input_of, output_of};
+ghost use Rattle.grid_log.specs.Logs.{Input, Output, HasWaited, LogEnds, MayGoOn, Waits, ending_status, input_of, output_of};
 ghost use Rattle.grid_log.specs.Logging.{Begins, HasLogged, HasNext, IsEntry, Steps, Stopped, fault_status, unlogged_status};
 
 use crate::form::Form;
 use crate::recall::Recall;
 use crate::telling::Teller;
-use crate::writing::write_all;
-use grid_outside::{Sink, Source};
+use grid_outside::{Clock, Sink, Source, write_all};
 use grid_types::Entry;
 use journal_reader::{Ending, JournalReader, Next, Opened, ReadFault};
 use std::alloc::Global;
 
-/// The input is no journal.
-const NOT_JOURNAL: u8 = 4;
+/// The status of an input that is no journal.
+pub const NOT_JOURNAL: u8 = 4;
 
-/// The input ends inside the head, or inside an entry.
-const CUT: u8 = 3;
+/// The status of an input that ends inside the head, or inside an entry.
+pub const CUT: u8 = 3;
+
+/// How long a log waits for an input to grow, in milliseconds.
+pub const PAUSE_MS: u64 = 500;
 
 /// Why lines were not written.
 #[derive(Clone, Copy)]
@@ -42,7 +44,8 @@ pub(crate) struct Logging {
     teller: Teller,
 }
 
-fn ending_status(ending: Ending) -> u8
+/// The status that tells how a journal ended.
+pub fn ending_status(ending: Ending) -> u8
     ensures { result ≡ ending_status ending }
 {
     match ending {
@@ -53,7 +56,8 @@ fn ending_status(ending: Ending) -> u8
     }
 }
 
-fn fault_status(fault: ReadFault) -> u8
+/// The status that tells why reading did not go on.
+pub fn fault_status(fault: ReadFault) -> u8
     ensures { result ≡ fault_status fault }
 {
     match fault {
@@ -71,13 +75,20 @@ fn unlogged_status(why: Unlogged) -> u8
     }
 }
 
+/// Whether a log that ended with this status may go on: its journal ended where its input ended.
+fn may_go_on(status: u8) -> bool
+    ensures { (result ≡ true) ↔ MayGoOn status }
+{
+    status == 0 || status == CUT
+}
+
 /// Writes lines.
 fn put<K: Sink>(bytes: &[u8], output: &mut K) -> Result<(), Unlogged>
-    ensures ok { OnOk result (Gains (K.taken output.old) (K.taken output.new) bytes.now) }
+    ensures ok { OnOk result (Gains (K.view output.old).taken (K.view output.new).taken bytes.now) }
     ensures stopped { IfErr result (λ why. Stopped
-        (output_of (K.taken output.old) (K.faults output.old))
-        (output_of (K.taken output.new) (K.faults output.new)) bytes.now why) }
-    ensures faults { K.faults output.old ≤ K.faults output.new }
+        (output_of (K.view output.old).taken (K.view output.old).faults)
+        (output_of (K.view output.new).taken (K.view output.new).faults) bytes.now why) }
+    ensures faults { (K.view output.old).faults ≤ (K.view output.new).faults }
 {
     match write_all(output, bytes) {
         Ok(()) => Ok(()),
@@ -90,15 +101,15 @@ impl Logging {
     fn tell<K: Sink>(&mut self, entry: &Entry, output: &mut K) -> Result<(), Unlogged>
         ensures past { OnOk result (recalled self.new.past
             ≡ past_after (recalled self.old.past) entry.now) }
-        ensures ok { OnOk result (Gains (K.taken output.old) (K.taken output.new)
+        ensures ok { OnOk result (Gains (K.view output.old).taken (K.view output.new).taken
             (lines self.old.teller.form (change_events (recalled self.old.past)
             entry.now.caller entry.now.change))) }
         ensures stopped { IfErr result (λ why. Stopped
-            (output_of (K.taken output.old) (K.faults output.old))
-            (output_of (K.taken output.new) (K.faults output.new))
+            (output_of (K.view output.old).taken (K.view output.old).faults)
+            (output_of (K.view output.new).taken (K.view output.new).faults)
             (lines self.old.teller.form (change_events (recalled self.old.past)
             entry.now.caller entry.now.change)) why) }
-        ensures faults { K.faults output.old ≤ K.faults output.new }
+        ensures faults { (K.view output.old).faults ≤ (K.view output.new).faults }
         ensures reader { self.new.reader ≡ self.old.reader }
         ensures teller { self.new.teller ≡ self.old.teller }
     {
@@ -114,9 +125,13 @@ impl Logging {
     /// Does what the journal's next calls for. The status where the log ends.
     fn follow<K: Sink>(&mut self, next: Next, output: &mut K) -> Option<u8>
         ensures goes { (old now : Input) (before : Output) →
-            HasNext old now before (output_of (K.taken output.old) (K.faults output.old)) self.old
-            next → Steps old now before (output_of (K.taken output.new) (K.faults output.new))
+            HasNext old now before (output_of (K.view output.old).taken (K.view output.old).faults) self.old
+            next → Steps old now before (output_of (K.view output.new).taken (K.view output.new).faults)
             self.new result }
+        ensures stays { (old now : Input) (before : Output) (status : ℕ) →
+            HasNext old now before (output_of (K.view output.old).taken (K.view output.old).faults) self.old
+            next → result ≡ Some status → MayGoOn status → HasLogged old now before
+            (output_of (K.view output.new).taken (K.view output.new).faults) self.new }
         ensures reader { self.new.reader ≡ self.old.reader }
         ensures teller { self.new.teller ≡ self.old.teller }
         ensures goes_on { result ≡ None → IsEntry next }
@@ -133,10 +148,16 @@ impl Logging {
     /// Reads an entry and writes its lines. The status where the log ends.
     fn step<S: Source, K: Sink>(&mut self, input: &mut S, output: &mut K) -> Option<u8>
         ensures goes { (old : Input) (before : Output) →
-            HasLogged old (input_of (S.given input.old) (S.ends input.old) (S.faults input.old))
-            before (output_of (K.taken output.old) (K.faults output.old)) self.old →
-            Steps old (input_of (S.given input.new) (S.ends input.new) (S.faults input.new))
-            before (output_of (K.taken output.new) (K.faults output.new)) self.new result }
+            HasLogged old (input_of (S.view input.old).given (S.view input.old).ends (S.view input.old).faults)
+            before (output_of (K.view output.old).taken (K.view output.old).faults) self.old →
+            Steps old (input_of (S.view input.new).given (S.view input.new).ends (S.view input.new).faults)
+            before (output_of (K.view output.new).taken (K.view output.new).faults) self.new result }
+        ensures stays { (old : Input) (before : Output) (status : ℕ) →
+            HasLogged old (input_of (S.view input.old).given (S.view input.old).ends (S.view input.old).faults)
+            before (output_of (K.view output.old).taken (K.view output.old).faults) self.old →
+            result ≡ Some status → MayGoOn status → HasLogged old
+            (input_of (S.view input.new).given (S.view input.new).ends (S.view input.new).faults)
+            before (output_of (K.view output.new).taken (K.view output.new).faults) self.new }
         ensures less { result ≡ None →
             left_of self.new.reader.feed < left_of self.old.reader.feed }
         ensures teller { self.new.teller ≡ self.old.teller }
@@ -147,20 +168,59 @@ impl Logging {
         }
     }
 
-    /// Goes on to the end.
+    /// Goes on to the end of what is there.
     fn run<S: Source, K: Sink>(&mut self, input: &mut S, output: &mut K) -> u8
         ensures goes { (old : Input) (before : Output) →
-            HasLogged old (input_of (S.given input.old) (S.ends input.old) (S.faults input.old))
-            before (output_of (K.taken output.old) (K.faults output.old)) self.old →
+            HasLogged old (input_of (S.view input.old).given (S.view input.old).ends (S.view input.old).faults)
+            before (output_of (K.view output.old).taken (K.view output.old).faults) self.old →
             LogEnds self.old.teller.form old
-            (input_of (S.given input.new) (S.ends input.new) (S.faults input.new))
-            before (output_of (K.taken output.new) (K.faults output.new)) result }
+            (input_of (S.view input.new).given (S.view input.new).ends (S.view input.new).faults)
+            before (output_of (K.view output.new).taken (K.view output.new).faults) result }
+        ensures stays { (old : Input) (before : Output) →
+            HasLogged old (input_of (S.view input.old).given (S.view input.old).ends (S.view input.old).faults)
+            before (output_of (K.view output.old).taken (K.view output.old).faults) self.old →
+            MayGoOn result → HasLogged old
+            (input_of (S.view input.new).given (S.view input.new).ends (S.view input.new).faults)
+            before (output_of (K.view output.new).taken (K.view output.new).faults) self.new }
+        ensures teller { self.new.teller ≡ self.old.teller }
     {
         'entries: loop {
             if let Some(status) = self.step(input, output) {
                 return status;
             }
         }
+    }
+
+    /// Goes on to the end, and behind it after each of so many pauses, where the input may have grown.
+    fn follow_on<S: Source, K: Sink, C: Clock>(
+        &mut self,
+        pauses: u64,
+        input: &mut S,
+        output: &mut K,
+        clock: &mut C,
+    ) -> u8
+        ensures goes { (old : Input) (before : Output) →
+            HasLogged old (input_of (S.view input.old).given (S.view input.old).ends (S.view input.old).faults)
+            before (output_of (K.view output.old).taken (K.view output.old).faults) self.old →
+            LogEnds self.old.teller.form old
+            (input_of (S.view input.new).given (S.view input.new).ends (S.view input.new).faults)
+            before (output_of (K.view output.new).taken (K.view output.new).faults) result }
+        ensures waits { (old : Input) (before : Output) →
+            HasLogged old (input_of (S.view input.old).given (S.view input.old).ends (S.view input.old).faults)
+            before (output_of (K.view output.old).taken (K.view output.old).faults) self.old →
+            MayGoOn result → HasWaited pauses old
+            (input_of (S.view input.new).given (S.view input.new).ends (S.view input.new).faults)
+            (C.view clock.old) (C.view clock.new) }
+    {
+        for done in 0..pauses {
+            let status = self.run(input, output);
+            if !may_go_on(status) {
+                return status;
+            }
+            clock.pause(PAUSE_MS);
+            self.reader.go_on();
+        }
+        self.run(input, output)
     }
 }
 
@@ -175,19 +235,26 @@ fn first_line(form: Form) -> &'static [u8]
 }
 
 /// Writes the log of a journal whose head was read.
-fn log_journal<S: Source, K: Sink>(
+fn log_journal<S: Source, K: Sink, C: Clock>(
     alloc: Global,
     form: Form,
+    pauses: u64,
     reader: JournalReader,
     input: &mut S,
     output: &mut K,
+    clock: &mut C,
 ) -> u8
-    ensures { (old : Input) → Begins old
-        (input_of (S.given input.old) (S.ends input.old) (S.faults input.old))
+    ensures log { (old : Input) → Begins old
+        (input_of (S.view input.old).given (S.view input.old).ends (S.view input.old).faults)
         (opened.Journal reader) →
-        LogEnds form old (input_of (S.given input.new) (S.ends input.new) (S.faults input.new))
-        (output_of (K.taken output.old) (K.faults output.old))
-        (output_of (K.taken output.new) (K.faults output.new)) result }
+        LogEnds form old (input_of (S.view input.new).given (S.view input.new).ends (S.view input.new).faults)
+        (output_of (K.view output.old).taken (K.view output.old).faults)
+        (output_of (K.view output.new).taken (K.view output.new).faults) result }
+    ensures waits { (old : Input) → Begins old
+        (input_of (S.view input.old).given (S.view input.old).ends (S.view input.old).faults)
+        (opened.Journal reader) → MayGoOn result → HasWaited pauses old
+        (input_of (S.view input.new).given (S.view input.new).ends (S.view input.new).faults)
+        (C.view clock.old) (C.view clock.new) }
 {
     if let Err(why) = put(first_line(form), output) {
         return unlogged_status(why);
@@ -197,25 +264,31 @@ fn log_journal<S: Source, K: Sink>(
         past: Recall::new(alloc),
         teller: Teller { form, alloc },
     };
-    logging.run(input, output)
+    logging.follow_on(pauses, input, output, clock)
 }
 
 /// Writes the log of what was opened.
-fn log_opened<S: Source, K: Sink>(
+fn log_opened<S: Source, K: Sink, C: Clock>(
     alloc: Global,
     form: Form,
+    pauses: u64,
     opened: Opened,
     input: &mut S,
     output: &mut K,
+    clock: &mut C,
 ) -> u8
-    ensures { (old : Input) → Begins old
-        (input_of (S.given input.old) (S.ends input.old) (S.faults input.old)) opened →
-        LogEnds form old (input_of (S.given input.new) (S.ends input.new) (S.faults input.new))
-        (output_of (K.taken output.old) (K.faults output.old))
-        (output_of (K.taken output.new) (K.faults output.new)) result }
+    ensures log { (old : Input) → Begins old
+        (input_of (S.view input.old).given (S.view input.old).ends (S.view input.old).faults) opened →
+        LogEnds form old (input_of (S.view input.new).given (S.view input.new).ends (S.view input.new).faults)
+        (output_of (K.view output.old).taken (K.view output.old).faults)
+        (output_of (K.view output.new).taken (K.view output.new).faults) result }
+    ensures waits { (old : Input) → Begins old
+        (input_of (S.view input.old).given (S.view input.old).ends (S.view input.old).faults) opened →
+        Waits pauses old (input_of (S.view input.new).given (S.view input.new).ends (S.view input.new).faults)
+        (C.view clock.old) (C.view clock.new) result }
 {
     match opened {
-        Opened::Journal(reader) => log_journal(alloc, form, reader, input, output),
+        Opened::Journal(reader) => log_journal(alloc, form, pauses, reader, input, output, clock),
         Opened::Cut => CUT,
         Opened::NotJournal => NOT_JOURNAL,
     }
@@ -225,15 +298,29 @@ fn log_opened<S: Source, K: Sink>(
 /// that. It is 0 where the input is a journal up to its end, 2 where no entry begins behind those that were told, 3 where the
 /// input is cut off, in its head or in its last entry, 4 where it is no journal and 9 where it has more bytes than are looked
 /// at; 5 where a read failed, 6 where a write failed, and 7 for want of memory. Entries are not checked.
-pub fn log_lines<S: Source, K: Sink>(alloc: Global, form: Form, input: &mut S, output: &mut K) -> u8
-    ensures { LogEnds form
-        (input_of (S.given input.old) (S.ends input.old) (S.faults input.old))
-        (input_of (S.given input.new) (S.ends input.new) (S.faults input.new))
-        (output_of (K.taken output.old) (K.faults output.old))
-        (output_of (K.taken output.new) (K.faults output.new)) result }
+///
+/// Where the input ends, it is asked for more after a pause of half a second, so many times in all: only behind the last of
+/// them an end of the input is an end of the log. An input that ends inside its head is no journal that grows.
+pub fn log_lines<S: Source, K: Sink, C: Clock>(
+    alloc: Global,
+    form: Form,
+    pauses: u64,
+    input: &mut S,
+    output: &mut K,
+    clock: &mut C,
+) -> u8
+    ensures log { LogEnds form
+        (input_of (S.view input.old).given (S.view input.old).ends (S.view input.old).faults)
+        (input_of (S.view input.new).given (S.view input.new).ends (S.view input.new).faults)
+        (output_of (K.view output.old).taken (K.view output.old).faults)
+        (output_of (K.view output.new).taken (K.view output.new).faults) result }
+    ensures waits { Waits pauses
+        (input_of (S.view input.old).given (S.view input.old).ends (S.view input.old).faults)
+        (input_of (S.view input.new).given (S.view input.new).ends (S.view input.new).faults)
+        (C.view clock.old) (C.view clock.new) result }
 {
     match JournalReader::open(alloc, input) {
-        Ok(opened) => log_opened(alloc, form, opened, input, output),
+        Ok(opened) => log_opened(alloc, form, pauses, opened, input, output, clock),
         Err(fault) => fault_status(fault),
     }
 }

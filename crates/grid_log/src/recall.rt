@@ -4,6 +4,7 @@ ghost use Rattle.grid_types.specs.Lists.{has};
 ghost use Rattle.grid_log.specs.Past.{clearing_of, is_clearing, is_of_binding, is_of_node, is_of_request, name_in, no_past, nodes_after, past_after, queued_in, runs_on, sessions_after, suspects_after, unsettled_after};
 ghost use Rattle.grid_log.specs.Recalls.{recalled};
 
+use crate::facts::slots_in;
 use crate::rows::{Clearing, NodeRow, SessionRow, WaitRow};
 use grid_types::{Change, Entry, NoMemory, NodeNo, ReqNo};
 use std::alloc::Global;
@@ -71,7 +72,11 @@ fn note_node(nodes: &mut Vec<NodeRow>, change: &Change) -> Result<(), NoMemory>
             ..
         } => {
             let name = registration.name.clone()?;
-            match nodes.push(NodeRow { node: *node, name }) {
+            match nodes.push(NodeRow {
+                node: *node,
+                name,
+                slots: slots_in(registration.groups.items()),
+            }) {
                 Ok(()) => Ok(()),
                 Err(_) => Err(NoMemory),
             }
@@ -184,7 +189,7 @@ fn clearing_of(caller: u64, change: &Change) -> Option<Clearing>
 
 impl Recall {
     /// Nothing happened yet. It takes no memory.
-    pub(crate) fn new(alloc: Global) -> Recall
+    pub fn new(alloc: Global) -> Recall
         ensures { recalled result ≡ no_past }
     {
         Recall {
@@ -197,7 +202,7 @@ impl Recall {
     }
 
     /// Takes note of an entry. After an error what it remembers is of no use.
-    pub(crate) fn note(&mut self, entry: &Entry) -> Result<(), NoMemory>
+    pub fn note(&mut self, entry: &Entry) -> Result<(), NoMemory>
         ensures { OnOk result (recalled self.new ≡ past_after (recalled self.old) entry.now) }
     {
         note_node(&mut self.nodes, &entry.change)?;
@@ -209,7 +214,7 @@ impl Recall {
     }
 
     /// The name of a registered node.
-    pub(crate) fn name_of(&self, node: NodeNo) -> Option<&str>
+    pub fn name_of(&self, node: NodeNo) -> Option<&str>
         ensures { option_copied result ≡ name_in self.now.nodes.items node }
     {
         match node_row(self.nodes.as_slice(), node) {
@@ -219,14 +224,14 @@ impl Recall {
     }
 
     /// Whether the node was suspected and gave no sign of life since.
-    pub(crate) fn is_suspect(&self, node: NodeNo) -> bool
+    pub fn is_suspect(&self, node: NodeNo) -> bool
         ensures { result ≡ has node self.now.suspects.items }
     {
         self.suspects.contains(&node)
     }
 
     /// When a request was queued that is not settled.
-    pub(crate) fn queued(&self, request: ReqNo) -> Option<u64>
+    pub fn queued(&self, request: ReqNo) -> Option<u64>
         ensures { result ≡ queued_in self.now.unsettled.items request }
     {
         match wait_row(self.unsettled.as_slice(), request) {
@@ -236,21 +241,35 @@ impl Recall {
     }
 
     /// The session that runs by this binding.
-    pub(crate) fn session_of(&self, binding: ReqNo) -> Option<&SessionRow>
+    pub fn session_of(&self, binding: ReqNo) -> Option<&SessionRow>
         ensures { option_copied result ≡ find (is_of_binding binding) self.now.sessions.items }
     {
         self.sessions.iter().find(|row| row.binding == binding)
     }
 
+    /// The nodes that are registered, in order.
+    pub fn nodes(&self) -> &[NodeRow]
+        ensures { result.now ≡ self.now.nodes.items }
+    {
+        self.nodes.as_slice()
+    }
+
+    /// The requests that are not settled, in order.
+    pub fn unsettled(&self) -> &[WaitRow]
+        ensures { result.now ≡ self.now.unsettled.items }
+    {
+        self.unsettled.as_slice()
+    }
+
     /// The sessions that run, in order.
-    pub(crate) fn sessions(&self) -> &[SessionRow]
+    pub fn sessions(&self) -> &[SessionRow]
         ensures { result.now ≡ self.now.sessions.items }
     {
         self.sessions.as_slice()
     }
 
     /// Whether the last entry was the caller's, and cleared this request.
-    pub(crate) fn was_just_cleared(&self, caller: u64, request: ReqNo) -> bool
+    pub fn was_just_cleared(&self, caller: u64, request: ReqNo) -> bool
         ensures { result ≡ is_clearing caller request self.now.cleared }
     {
         match self.cleared {

@@ -7,6 +7,8 @@ use grid_types::{Moment, NodeNo, ReqNo, SessionId, SlotId, Text};
 pub struct NodeRow {
     pub node: NodeNo,
     pub name: Text,
+    /// How many slots it has.
+    pub slots: u64,
 }
 
 /// A request that is not settled.

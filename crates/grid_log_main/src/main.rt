@@ -4,14 +4,15 @@
 use grid_console::{Asked, NoWords, words};
 use grid_log::log_main;
 use grid_outside::{StandardInput, StandardOutput};
+use grid_sockets::MachineClock;
 use grid_types::Text;
 use std::alloc::Global;
 use std::process::ExitCode;
 
 /// How the program is called.
 const USAGE: &str = "\
-usage: grid_log < JOURNAL           a line for each event of a hub's journal
-       grid_log --json < JOURNAL    the same as objects of JSON
+usage: grid_log [--json] < JOURNAL            a line for each event of a hub's journal, or an object of JSON
+       grid_log --follow [--json] < JOURNAL   the same, and of what is written behind it later
 ";
 
 /// Runs what the arguments say, or tells what they ask of the program.
@@ -23,7 +24,8 @@ fn status_of(rt: HostRuntime, words: &[Text]) -> u8 {
     let alloc: Global = rt.alloc();
     let mut input = StandardInput::new(&rt);
     let mut output = StandardOutput::new(&rt);
-    log_main(alloc, words, &mut input, &mut output)
+    let mut clock = MachineClock::new(rt);
+    log_main(alloc, words, &mut input, &mut output, &mut clock)
 }
 
 fn main(rt: HostRuntime) -> ExitCode {

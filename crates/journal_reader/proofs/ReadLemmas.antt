@@ -20,7 +20,7 @@ use Rattle.journal_reader.specs.declared.reader.Head.TheVariants as head
 use Rattle.journal_reader.specs.declared.reader.Next.{Next}
 use Rattle.journal_reader.specs.declared.reader.JournalReader.{JournalReader}
 use Rattle.journal_reader.specs.Feeds.{waiting, Grew, Reads}
-use Rattle.journal_reader.specs.Readings.{Told, Gave, Goes, GoesIf, HasBegun, HasEnded, HasRead, Heads, IsOpened, LessensIf, left_of}
+use Rattle.journal_reader.specs.Readings.{Told, Gave, Goes, GoesIf, HasBegun, HasEnded, HasRead, Heads, IsOpened, EndWasTold, LessensIf, StaysIf, Stays, asked_again, left_of}
 use Rattle.journal_reader.proofs.StreamLemmas.{gains_more, rose_later}
 
 -- ---- the bytes of a journal
@@ -151,6 +151,32 @@ goes_by_bytes start before now old new H r same reads ends later =
       end_told = λ h. rose_later start.ends before.ends now.ends r.ends_later (ends h);
     }
 
+-- ---- the input is asked again
+
+pub goes_as : (start now : Told) (old new : JournalReader) (H : List Entry) → HasRead start now old H → new.config ≡ old.config →
+    waiting new.feed ≡ waiting old.feed → new.feed.taken ≡ old.feed.taken → start.ends ≤ now.ends → EndWasTold start now new.feed → HasRead start now new H
+goes_as start now old new H r same waits taken later told = record {
+  gave = subst (λ (d : HubConfig). Gave start.given now.given d H (waiting new.feed)) (sym same)
+      (subst (λ (w : List ℕ). Gave start.given now.given old.config H w) (sym waits) r.gave);
+  place = taken ∙ r.place ∙ ap (λ (d : HubConfig). length (journal_bytes d H)) (sym same);
+  ends_later = later;
+  end_told = told;
+}
+
+-- the same is read of a start at which the ends were those of now
+pub read_since : (start now : Told) (reader : JournalReader) (H : List Entry) → HasRead start now reader H → reader.feed.ended ≡ false →
+    HasRead (asked_again start now) now reader H
+read_since start now reader H r still = record {
+  gave = r.gave;
+  place = r.place;
+  ends_later = omega arith;
+  end_told = λ h. absurd (cc);
+}
+
+pub stays_open : (start now : Told) (old new : JournalReader) (H : List Entry) → HasRead start now old H → new.config ≡ old.config →
+    waiting new.feed ≡ waiting old.feed → new.feed.taken ≡ old.feed.taken → new.feed.ended ≡ false → HasRead start now new H
+stays_open start now old new H r same waits taken still = goes_as start now old new H r same waits taken r.ends_later (λ h. absurd (cc))
+
 -- ---- the beginning
 
 pub begins_reading : (start now : Told) (reader : JournalReader) (c : HubConfig) → IsOpened start now reader.feed c → reader.config ≡ c → HasRead start now reader []
@@ -186,6 +212,9 @@ opened_with start now feed found c opens is = subst (λ (f : Head). Heads start 
 
 pub found_one : (start now : Told) (new : JournalReader) (H : List Entry) (found : Option Next) (n : Next) → GoesIf start now new H found → found ≡ Some n → Goes start now new H n
 found_one start now new H found n goes is = subst (λ (f : Option Next). GoesIf start now new H f) is goes
+
+pub stays_one : (start now : Told) (new : JournalReader) (H : List Entry) (found : Option Next) (n : Next) → StaysIf start now new H found → found ≡ Some n → Stays start now new H n
+stays_one start now new H found n stays is = subst (λ (f : Option Next). StaysIf start now new H f) is stays
 
 pub found_none : (start now : Told) (new : JournalReader) (H : List Entry) (found : Option Next) → GoesIf start now new H found → found ≡ None → HasRead start now new H
 found_none start now new H found goes is = subst (λ (f : Option Next). GoesIf start now new H f) is goes

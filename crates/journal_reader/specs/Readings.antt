@@ -34,6 +34,10 @@ pub record Told : Type 0 where
 abbrev pub told : Option (List ℕ) → ℕ → Told
 told given ends = record { given = given; ends = ends }
 
+-- the start again, but for the ends, which are those told by now
+abbrev pub asked_again : Told → Told → Told
+asked_again start now = told start.given now.ends
+
 -- the bytes that were given in the meantime are a head with a valid configuration, the entries of a history in order, and a rest
 pub record Gave (old new : Option (List ℕ)) (c : HubConfig) (H : List Entry) (rest : List ℕ) : Type 0 where
   pub bytes : List ℕ
@@ -89,6 +93,16 @@ Goes start now new H (next.Ends e) = HasEnded start now new.config H e
 abbrev pub GoesIf : Told → Told → JournalReader → List Entry → Option Next → Type 0
 GoesIf start now new H Option.None = HasRead start now new H
 GoesIf start now new H (Option.Some found) = Goes start now new H found
+
+-- where the journal ended, it has been read as before
+abbrev pub Stays : Told → Told → JournalReader → List Entry → Next → Type 0
+Stays start now new H (next.Entry entry) = Unit {0}
+Stays start now new H (next.Ends e) = HasRead start now new H
+
+-- the same, where there may be no answer yet
+abbrev pub StaysIf : Told → Told → JournalReader → List Entry → Option Next → Type 0
+StaysIf start now new H Option.None = Unit {0}
+StaysIf start now new H (Option.Some found) = Stays start now new H found
 
 -- what is left to do: each byte that may come is read and taken off, and the end is told once
 abbrev pub left_of : Feed → ℕ

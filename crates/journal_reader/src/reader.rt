@@ -4,7 +4,7 @@ ghost use Rattle.grid_types.specs.declared.entry.Entry.{Entry};
 ghost use Rattle.grid_outside.specs.Counts.{Rose};
 ghost use Rattle.grid_journal.specs.EntryReads.{BeginsEntry, BeginsWithEntry, EntryRead};
 ghost use Rattle.journal_reader.specs.Feeds.{Grew, waiting};
-ghost use Rattle.journal_reader.specs.Readings.{Told, Goes, GoesIf, HasBegun, HasRead, Heads, Lessens, LessensIf, Opens, most_bytes, told};
+ghost use Rattle.journal_reader.specs.Readings.{Told, Goes, GoesIf, HasBegun, HasRead, Heads, Lessens, LessensIf, Opens, Stays, StaysIf, asked_again, most_bytes, told};
 
 use crate::feed::{Feed, ReadFault};
 use grid_journal::{EntryStep, HEAD_BYTES, HeadStep, read_entry, read_head};
@@ -69,12 +69,12 @@ fn take_head<S: Source>(feed: &mut Feed, input: &mut S) -> Result<Head, ReadFaul
     requires first { feed.old.taken ≡ 0 }
     requires open { feed.old.ended ≡ false }
     ensures heads { IfOk result (λ found.
-        Heads (told (S.given input.old) (S.ends input.old))
-        (told (S.given input.new) (S.ends input.new)) feed.new found) }
-    ensures ends { S.ends input.old ≤ S.ends input.new }
-    ensures faults { S.faults input.old ≤ S.faults input.new }
+        Heads (told (S.view input.old).given (S.view input.old).ends)
+        (told (S.view input.new).given (S.view input.new).ends) feed.new found) }
+    ensures ends { (S.view input.old).ends ≤ (S.view input.new).ends }
+    ensures faults { (S.view input.old).faults ≤ (S.view input.new).faults }
     ensures cause { IsErrOf result ReadFault.Read →
-        Rose (S.faults input.old) (S.faults input.new) }
+        Rose (S.view input.old).faults (S.view input.new).faults }
 {
     'pieces: loop {
         match read_head(feed.waiting()) {
@@ -100,11 +100,11 @@ impl JournalReader {
     /// `Read` where a read failed, `Memory` for want of memory.
     pub fn open<S: Source>(alloc: Global, input: &mut S) -> Result<Opened, ReadFault>
         ensures opens { IfOk result (λ found.
-            Opens (told (S.given input.old) (S.ends input.old))
-            (told (S.given input.new) (S.ends input.new)) found) }
-        ensures faults { S.faults input.old ≤ S.faults input.new }
+            Opens (told (S.view input.old).given (S.view input.old).ends)
+            (told (S.view input.new).given (S.view input.new).ends) found) }
+        ensures faults { (S.view input.old).faults ≤ (S.view input.new).faults }
         ensures cause { IsErrOf result ReadFault.Read →
-            Rose (S.faults input.old) (S.faults input.new) }
+            Rose (S.view input.old).faults (S.view input.new).faults }
     {
         let mut feed = Feed::new(alloc);
         match take_head(&mut feed, input)? {
@@ -124,6 +124,8 @@ impl JournalReader {
         requires begins { BeginsEntry (waiting self.now.feed) }
         ensures goes { (start now : Told) (H : List Entry) → HasRead start now self.now H →
             Goes start now self.now H result }
+        ensures stays { (start now : Told) (H : List Entry) → HasRead start now self.now H →
+            Stays start now self.now H result }
         ensures less { Lessens self.now.feed self.now.feed result }
     {
         if self.feed.count() == 0 {
@@ -137,15 +139,18 @@ impl JournalReader {
     fn read_on<S: Source>(&mut self, input: &mut S) -> Result<Option<Next>, ReadFault>
         requires { BeginsEntry (waiting self.old.feed) }
         ensures goes { IfOk result (λ found. (start : Told) (H : List Entry) →
-            HasRead start (told (S.given input.old) (S.ends input.old)) self.old H →
-            GoesIf start (told (S.given input.new) (S.ends input.new)) self.new H found) }
-        ensures grew { Grew (S.given input.old) (S.given input.new) }
+            HasRead start (told (S.view input.old).given (S.view input.old).ends) self.old H →
+            GoesIf start (told (S.view input.new).given (S.view input.new).ends) self.new H found) }
+        ensures stays { IfOk result (λ found. (start : Told) (H : List Entry) →
+            HasRead start (told (S.view input.old).given (S.view input.old).ends) self.old H →
+            StaysIf start (told (S.view input.new).given (S.view input.new).ends) self.new H found) }
+        ensures grew { Grew (S.view input.old).given (S.view input.new).given }
         ensures less { IfOk result (λ found. LessensIf self.old.feed self.new.feed found) }
         ensures config { self.new.config ≡ self.old.config }
-        ensures ends { S.ends input.old ≤ S.ends input.new }
-        ensures faults { S.faults input.old ≤ S.faults input.new }
+        ensures ends { (S.view input.old).ends ≤ (S.view input.new).ends }
+        ensures faults { (S.view input.old).faults ≤ (S.view input.new).faults }
         ensures cause { IsErrOf result ReadFault.Read →
-            Rose (S.faults input.old) (S.faults input.new) }
+            Rose (S.view input.old).faults (S.view input.new).faults }
     {
         if self.feed.is_full() {
             return Ok(Some(Next::Ends(Ending::Limit)));
@@ -162,6 +167,7 @@ impl JournalReader {
         requires { BeginsWithEntry (waiting self.old.feed) entry len }
         ensures goes { (start now : Told) (H : List Entry) → HasRead start now self.old H →
             Goes start now self.new H result }
+        ensures stays { (start now : Told) (H : List Entry) → Stays start now self.new H result }
         ensures less { Lessens self.old.feed self.new.feed result }
         ensures config { self.new.config ≡ self.old.config }
     {
@@ -177,15 +183,18 @@ impl JournalReader {
     ) -> Result<Option<Next>, ReadFault>
         requires { EntryRead (waiting self.old.feed) step }
         ensures goes { IfOk result (λ found. (start : Told) (H : List Entry) →
-            HasRead start (told (S.given input.old) (S.ends input.old)) self.old H →
-            GoesIf start (told (S.given input.new) (S.ends input.new)) self.new H found) }
-        ensures grew { Grew (S.given input.old) (S.given input.new) }
+            HasRead start (told (S.view input.old).given (S.view input.old).ends) self.old H →
+            GoesIf start (told (S.view input.new).given (S.view input.new).ends) self.new H found) }
+        ensures stays { IfOk result (λ found. (start : Told) (H : List Entry) →
+            HasRead start (told (S.view input.old).given (S.view input.old).ends) self.old H →
+            StaysIf start (told (S.view input.new).given (S.view input.new).ends) self.new H found) }
+        ensures grew { Grew (S.view input.old).given (S.view input.new).given }
         ensures less { IfOk result (λ found. LessensIf self.old.feed self.new.feed found) }
         ensures config { self.new.config ≡ self.old.config }
-        ensures ends { S.ends input.old ≤ S.ends input.new }
-        ensures faults { S.faults input.old ≤ S.faults input.new }
+        ensures ends { (S.view input.old).ends ≤ (S.view input.new).ends }
+        ensures faults { (S.view input.old).faults ≤ (S.view input.new).faults }
         ensures cause { IsErrOf result ReadFault.Read →
-            Rose (S.faults input.old) (S.faults input.new) }
+            Rose (S.view input.old).faults (S.view input.new).faults }
     {
         match step {
             EntryStep::Whole(entry, len) => Ok(Some(self.take(entry, len))),
@@ -197,15 +206,18 @@ impl JournalReader {
     /// Looks at the bytes that wait.
     fn look<S: Source>(&mut self, input: &mut S) -> Result<Option<Next>, ReadFault>
         ensures goes { IfOk result (λ found. (start : Told) (H : List Entry) →
-            HasRead start (told (S.given input.old) (S.ends input.old)) self.old H →
-            GoesIf start (told (S.given input.new) (S.ends input.new)) self.new H found) }
-        ensures grew { Grew (S.given input.old) (S.given input.new) }
+            HasRead start (told (S.view input.old).given (S.view input.old).ends) self.old H →
+            GoesIf start (told (S.view input.new).given (S.view input.new).ends) self.new H found) }
+        ensures stays { IfOk result (λ found. (start : Told) (H : List Entry) →
+            HasRead start (told (S.view input.old).given (S.view input.old).ends) self.old H →
+            StaysIf start (told (S.view input.new).given (S.view input.new).ends) self.new H found) }
+        ensures grew { Grew (S.view input.old).given (S.view input.new).given }
         ensures less { IfOk result (λ found. LessensIf self.old.feed self.new.feed found) }
         ensures config { self.new.config ≡ self.old.config }
-        ensures ends { S.ends input.old ≤ S.ends input.new }
-        ensures faults { S.faults input.old ≤ S.faults input.new }
+        ensures ends { (S.view input.old).ends ≤ (S.view input.new).ends }
+        ensures faults { (S.view input.old).faults ≤ (S.view input.new).faults }
         ensures cause { IsErrOf result ReadFault.Read →
-            Rose (S.faults input.old) (S.faults input.new) }
+            Rose (S.view input.old).faults (S.view input.new).faults }
     {
         match read_entry(self.alloc, self.feed.waiting()) {
             Ok(step) => self.follow(step, input),
@@ -213,23 +225,39 @@ impl JournalReader {
         }
     }
 
+    /// Reads on behind the end of the input, where it may have grown: the next call asks it for more, and tells an end only
+    /// where the input has told one since.
+    pub fn go_on(&mut self)
+        ensures read { (start now : Told) (H : List Entry) → HasRead start now self.old H →
+            HasRead start now self.new H }
+        ensures again { (start now : Told) (H : List Entry) → HasRead start now self.old H →
+            HasRead (asked_again start now) now self.new H }
+        ensures config { self.new.config ≡ self.old.config }
+    {
+        self.feed.go_on();
+    }
+
     /// The next entry, or how the journal ends. Whatever the history was whose journal was read so far, it has the entry now;
-    /// and the input gave that journal, and perhaps more, also where an error is answered.
+    /// and the input gave that journal, and perhaps more, also where an error is answered. Where the journal ended, it has been
+    /// read as before.
     ///
     /// # Errors
     /// `Read` where a read failed, `Memory` for want of memory.
     pub fn next<S: Source>(&mut self, input: &mut S) -> Result<Next, ReadFault>
         ensures goes { IfOk result (λ found. (start : Told) (H : List Entry) →
-            HasRead start (told (S.given input.old) (S.ends input.old)) self.old H →
-            Goes start (told (S.given input.new) (S.ends input.new)) self.new H found) }
+            HasRead start (told (S.view input.old).given (S.view input.old).ends) self.old H →
+            Goes start (told (S.view input.new).given (S.view input.new).ends) self.new H found) }
+        ensures stays { IfOk result (λ found. (start : Told) (H : List Entry) →
+            HasRead start (told (S.view input.old).given (S.view input.old).ends) self.old H →
+            Stays start (told (S.view input.new).given (S.view input.new).ends) self.new H found) }
         ensures begun { (start : Told) (H : List Entry) →
-            HasRead start (told (S.given input.old) (S.ends input.old)) self.old H →
-            HasBegun start (told (S.given input.new) (S.ends input.new)) self.old.config H }
+            HasRead start (told (S.view input.old).given (S.view input.old).ends) self.old H →
+            HasBegun start (told (S.view input.new).given (S.view input.new).ends) self.old.config H }
         ensures less { IfOk result (λ found. Lessens self.old.feed self.new.feed found) }
         ensures config { self.new.config ≡ self.old.config }
-        ensures faults { S.faults input.old ≤ S.faults input.new }
+        ensures faults { (S.view input.old).faults ≤ (S.view input.new).faults }
         ensures cause { IsErrOf result ReadFault.Read →
-            Rose (S.faults input.old) (S.faults input.new) }
+            Rose (S.view input.old).faults (S.view input.new).faults }
     {
         'pieces: loop {
             if let Some(found) = self.look(input)? {

@@ -65,7 +65,13 @@ fn a_read_or_a_write_that_fails_is_told(rt: HostRuntime) -> Result<(), Fail> {
 fn other_words_are_told_and_nothing_is_read(rt: HostRuntime) -> Result<(), Fail> {
     let alloc = rt.alloc();
     let whole = journal(alloc)?;
-    let rows: [&[&str]; 3] = [&["--jso"], &["--json", "--json"], &["text"]];
+    let rows: [&[&str]; 5] = [
+        &["--jso"],
+        &["--json", "--json"],
+        &["--json", "--follow"],
+        &["--follow", "--follow"],
+        &["text"],
+    ];
     for words in rows {
         let (found, written) = log(alloc, words, whole.as_slice(), &[0], &[0])?;
         assert_eq!(rt; (found, written.len()), (8, 0));

@@ -6,6 +6,8 @@ mod changes;
 #[cfg(test)]
 mod ends;
 #[cfg(test)]
+mod growing;
+#[cfg(test)]
 mod lines;
 #[cfg(test)]
 mod logs;

@@ -54,6 +54,15 @@ impl Feed {
         self.ended
     }
 
+    /// Asks for more behind an end of the input.
+    pub fn go_on(&mut self)
+        ensures waiting { waiting self.new ≡ waiting self.old }
+        ensures taken { self.new.taken ≡ self.old.taken }
+        ensures open { self.new.ended ≡ false }
+    {
+        self.ended = false;
+    }
+
     /// Whether as many bytes were read as are looked at.
     pub fn is_full(&self) -> bool
         ensures full { result ≡ nat_le (2 ^ 40) (self.now.taken + length (waiting self.now)) }
@@ -88,16 +97,16 @@ impl Feed {
     fn read_piece<S: Source>(&mut self, input: &mut S) -> Result<(), ReadFault>
         requires open { self.old.ended ≡ false }
         requires room { self.old.taken + length (waiting self.old) < 2 ^ 40 }
-        ensures reads { OnOk result (Reads self.old self.new (S.given input.old)
-            (S.given input.new)) }
+        ensures reads { OnOk result (Reads self.old self.new (S.view input.old).given
+            (S.view input.new).given) }
         ensures more { OnOk result (HasMore self.old self.new) }
-        ensures grew { Grew (S.given input.old) (S.given input.new) }
+        ensures grew { Grew (S.view input.old).given (S.view input.new).given }
         ensures end { OnOk result (self.new.ended ≡ true →
-            Rose (S.ends input.old) (S.ends input.new)) }
-        ensures ends { S.ends input.old ≤ S.ends input.new }
-        ensures faults { S.faults input.old ≤ S.faults input.new }
+            Rose (S.view input.old).ends (S.view input.new).ends) }
+        ensures ends { (S.view input.old).ends ≤ (S.view input.new).ends }
+        ensures faults { (S.view input.old).faults ≤ (S.view input.new).faults }
         ensures cause { IsErrOf result ReadFault.Read →
-            Rose (S.faults input.old) (S.faults input.new) }
+            Rose (S.view input.old).faults (S.view input.new).faults }
     {
         let mut piece = [0; PIECE_BYTES];
         let left = MOST_BYTES - self.taken - self.count() as u64;
@@ -123,16 +132,16 @@ impl Feed {
     pub fn refill<S: Source>(&mut self, input: &mut S) -> Result<(), ReadFault>
         requires open { self.old.ended ≡ false }
         requires room { self.old.taken + length (waiting self.old) < 2 ^ 40 }
-        ensures reads { OnOk result (Reads self.old self.new (S.given input.old)
-            (S.given input.new)) }
+        ensures reads { OnOk result (Reads self.old self.new (S.view input.old).given
+            (S.view input.new).given) }
         ensures more { OnOk result (HasMore self.old self.new) }
-        ensures grew { Grew (S.given input.old) (S.given input.new) }
+        ensures grew { Grew (S.view input.old).given (S.view input.new).given }
         ensures end { OnOk result (self.new.ended ≡ true →
-            Rose (S.ends input.old) (S.ends input.new)) }
-        ensures ends { S.ends input.old ≤ S.ends input.new }
-        ensures faults { S.faults input.old ≤ S.faults input.new }
+            Rose (S.view input.old).ends (S.view input.new).ends) }
+        ensures ends { (S.view input.old).ends ≤ (S.view input.new).ends }
+        ensures faults { (S.view input.old).faults ≤ (S.view input.new).faults }
         ensures cause { IsErrOf result ReadFault.Read →
-            Rose (S.faults input.old) (S.faults input.new) }
+            Rose (S.view input.old).faults (S.view input.new).faults }
     {
         let wanted = self.count() * 2 + 1;
         self.move_down();

@@ -8,10 +8,10 @@ use Rattle.grid_log.proofs.log.Logging.run.Given as goal
 abbrev pub invariant-entries : goal.invariant-entries
 invariant-entries g l = record {
   logged : (old : Input) (before : Output) →
-      HasLogged old (input_of (g.S.Source.given l.fn.input) (g.S.Source.ends l.fn.input) (g.S.Source.faults l.fn.input))
-      before (output_of (g.K.Sink.taken l.fn.output) (g.K.Sink.faults l.fn.output)) l.fn.self →
-      HasLogged old (input_of (g.S.Source.given l.input) (g.S.Source.ends l.input) (g.S.Source.faults l.input))
-      before (output_of (g.K.Sink.taken l.output) (g.K.Sink.faults l.output)) l.self;
+      HasLogged old (input_of (g.S.Source.view l.fn.input).given (g.S.Source.view l.fn.input).ends (g.S.Source.view l.fn.input).faults)
+      before (output_of (g.K.Sink.view l.fn.output).taken (g.K.Sink.view l.fn.output).faults) l.fn.self →
+      HasLogged old (input_of (g.S.Source.view l.input).given (g.S.Source.view l.input).ends (g.S.Source.view l.input).faults)
+      before (output_of (g.K.Sink.view l.output).taken (g.K.Sink.view l.output).faults) l.self;
   teller : l.self.teller ≡ l.fn.self.teller;
 }
 

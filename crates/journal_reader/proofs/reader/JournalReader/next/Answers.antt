@@ -1,5 +1,5 @@
 use Rattle.std.proofs.Common.{◌∙◌, arith}
-use Rattle.journal_reader.proofs.ReadLemmas.{begun, found_none, found_one, less_none}
+use Rattle.journal_reader.proofs.ReadLemmas.{begun, found_none, found_one, less_none, stays_one}
 use Rattle.journal_reader.proofs.StreamLemmas.{grew_on}
 use Rattle.journal_reader.proofs.reader.JournalReader.next.Goals as goal
 
@@ -21,3 +21,7 @@ pieces-preserved g c = record {
   config = c.look.ensures.config ∙ c.pieces.invariant.config;
   faults = omega (arith, c.pieces.invariant.faults, c.look.ensures.faults);
 }
+
+pub returns-in-Some-clause-stays : goal.returns-in-Some-clause-stays
+returns-in-Some-clause-stays g c = λ start H r.
+    stays_one start _ _ H c.in_ok-found.field-0 c.in-Some.found (c.in_ok-found.ensures.stays start H (c.pieces.invariant.goes start H r)) c.in-Some.is
