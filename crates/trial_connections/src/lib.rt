@@ -1,4 +1,4 @@
-//! Trials of connections: one that is fed by hand, and one over a shared hub.
+//! Trials of connections: one that is fed by hand, one over a shared hub, and those of teams.
 #![tactic(auto)]
 
 #[cfg(test)]
@@ -9,3 +9,5 @@ mod bytes;
 mod scripts;
 #[cfg(test)]
 mod shared;
+#[cfg(test)]
+mod teams;

@@ -18,4 +18,6 @@ mod rows;
 #[cfg(test)]
 mod sessions;
 #[cfg(test)]
+mod teams;
+#[cfg(test)]
 mod words;

@@ -88,11 +88,7 @@ impl Halves {
 }
 
 impl Source for Halves {
-    ghost faults = { λ s. 0 };
-
-    ghost ends = { λ s. s.ends };
-
-    ghost given = { λ s. None };
+    ghost view = { λ s. record { given = None; ends = s.ends; faults = 0 } };
 
     fn read(&mut self, into: &mut [u8]) -> Result<usize, Failed> {
         let next = self.next();
