@@ -1,0 +1,9 @@
+pub mod TellLemmas
+pub mod NodeLemmas
+pub mod RequestLemmas
+pub mod SessionLemmas
+pub mod StartLemmas
+pub mod RecordLemmas
+pub mod CallLemmas
+pub mod RowLemmas
+pub mod BindLemmas

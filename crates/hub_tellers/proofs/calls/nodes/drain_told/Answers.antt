@@ -1,0 +1,5 @@
+use Rattle.hub_tellers.proofs.CallLemmas.{tells_call}
+use Rattle.hub_tellers.proofs.calls.nodes.drain_told.Goals as goal
+
+pub returns-clause-told : goal.returns-clause-told
+returns-clause-told c = tells_call _ _ c.args.caller _ _ _ _ c.drain-answer.ensures c.raised-now.ensures _ _ _ _ (λ H s may. c.is_base_up-was_up.ensures.of H s) c.told_drain-told.ensures
