@@ -1,5 +1,5 @@
 -- How a check goes on by one entry, by bytes that are read, and to a verdict.
-use Rattle.std.proofs.Common.{◌≡◌, ℕ, suc, ◌+◌, ◌-◌, ◌^◌, ◌<◌, ◌≤◌, min, Bool, true, false, ◌&&◌, nat_le, List, [], ◌∷◌, ◌++◌, length, drop, reverse, flat_map, codes, refl, sym, ◌∙◌, ap, subst, inl, inr, arith, append_assoc, append-nil, length-append}
+use Rattle.std.proofs.Common.{◌≡◌, ℕ, suc, ◌+◌, ◌-◌, ◌^◌, ◌<◌, ◌≤◌, min, Bool, true, false, ◌&&◌, nat_le, List, [], ◌∷◌, ◌++◌, length, drop, reverse, flat_map, codes, refl, sym, ◌∙◌, ap, subst, inr, arith, append_assoc, append-nil, length-append}
 use Rattle.std.specs.Prelude.{Option, Some, Result, Ok, Err, is_err, IfOk, OnOk}
 use Rattle.std.proofs.Math.Seq.{drop-append_seam}
 use Rattle.std.proofs.lemmas.Bool.Decides.{nat_tests}
@@ -12,13 +12,13 @@ use Rattle.grid_types.specs.Permitted.{permitted}
 use Rattle.grid_types.specs.Legal.{legal}
 use Rattle.grid_types.specs.Laws.{LegalHistoriesAreSafe}
 use Rattle.grid_outside.specs.Counts.{Rose}
+use Rattle.grid_outside.specs.StreamLaws.{gains_more, rose_later}
 use Rattle.grid_journal.specs.declared.head.HeadStep.TheVariants as head_step
 use Rattle.grid_journal.specs.Spelled.{eight_bytes, four_bytes, flag_byte, change_bytes, entry_bytes, head_bytes, journal_bytes}
 use Rattle.grid_journal.specs.HeadReads.{HeadRead}
 use Rattle.grid_journal.specs.EntryReads.{BeginsEntry, BeginsWithEntry, NoEntry}
 use Rattle.grid_ledger.specs.declared.ledger.GridLedger.{GridLedger}
 use Rattle.grid_ledger.specs.LedgerStands.{Stands, LedgerTells, Notes}
-use Rattle.grid_check.proofs.StreamLemmas.{gains_more}
 use Rattle.grid_check.specs.declared.feed.Feed.{Feed}
 use Rattle.grid_check.specs.declared.checking.Checking.{Checking}
 use Rattle.grid_check.specs.declared.verdict.Verdict.{Verdict}
@@ -31,10 +31,6 @@ use Rattle.grid_check.specs.Verdicts.{IsJournal, most_bytes, tells_end, IsVerdic
 use Rattle.grid_check.specs.Checks.{Told, HasRead, IsTold, IsOpened, Opens, Goes, GoesOn}
 
 -- ---- what is told
-
-pub rose_later : (a b c : ℕ) → a ≤ b → Rose b c → Rose a c
-rose_later a b c l (inl h) = inl (omega arith)
-rose_later a b c l (inr h) = inr h
 
 -- ---- the bytes of a journal
 

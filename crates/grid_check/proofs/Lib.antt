@@ -1,3 +1,4 @@
 mod CheckLemmas
-mod StreamLemmas
 mod VerdictLemmas
+mod WriteLemmas
+mod EndLemmas

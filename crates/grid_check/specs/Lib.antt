@@ -2,3 +2,6 @@ pub mod Feeds
 pub mod Verdicts
 pub mod Checks
 pub mod Running
+pub mod Writes
+pub mod Making
+pub mod Words

@@ -1,7 +1,7 @@
 -- How a check ends that is told on an output.
-use Rattle.std.specs.Prelude.{◌≡◌, ℕ, true, List, ◌++◌, Option, codes, decimal}
+use Rattle.std.specs.Prelude.{◌≡◌, ℕ, true, List, ◌++◌, codes, decimal}
 use Rattle.grid_outside.specs.Counts.{Rose}
-use Rattle.grid_outside.specs.Told.{Gains}
+use Rattle.grid_outside.specs.Told.{Gains, SinkView, SourceView, TookFront}
 use Rattle.grid_check.specs.declared.verdict.Verdict.{Verdict}
 use Rattle.grid_check.specs.declared.verdict.Verdict.TheVariants as verdict
 use Rattle.grid_check.specs.Verdicts.{IsVerdict, tells_end}
@@ -24,40 +24,16 @@ verdict_status (verdict.Cut at) = 3
 verdict_status verdict.NotJournal = 4
 verdict_status verdict.Limit = 9
 
--- what an output tells
-pub record Written : Type 0 where
-  pub taken : Option (List ℕ)
-  pub faults : ℕ
-
-abbrev pub written : Option (List ℕ) → ℕ → Written
-written taken faults = record { taken = taken; faults = faults }
-
--- a front of the bytes was taken
-pub record TookFront (old new : Option (List ℕ)) (bytes : List ℕ) : Type 0 where
-  pub front : List ℕ
-  pub unwritten : List ℕ
-  pub are : front ++ unwritten ≡ bytes
-  pub gains : Gains old new front
-
 -- how the telling of a verdict ends: all of its line was written; a write failed, and a front of it was written; or there was
 -- no memory for the line, and nothing was written
-pub data TellEnds (old new : Written) (v : Verdict) (status : ℕ) : Type 0 where
+pub data TellEnds (old new : SinkView) (v : Verdict) (status : ℕ) : Type 0 where
   was_told : status ≡ verdict_status v → Gains old.taken new.taken (verdict_line v) → TellEnds old new v status
   broke_off : status ≡ 6 → Rose old.faults new.faults → TookFront old.taken new.taken (verdict_line v) → TellEnds old new v status
   no_line : status ≡ 7 → new.taken ≡ old.taken → TellEnds old new v status
 
--- what an input tells
-pub record Given : Type 0 where
-  pub given : Option (List ℕ)
-  pub ends : ℕ
-  pub faults : ℕ
-
-abbrev pub read_so_far : Option (List ℕ) → ℕ → ℕ → Given
-read_so_far given ends faults = record { given = given; ends = ends; faults = faults }
-
 -- how a check ends: the verdict on what was read is told; a read failed, and nothing was written; or there was no memory to
 -- come to a verdict, and nothing was written
-pub data CheckEnds (old new : Given) (before after : Written) (status : ℕ) : Type 0 where
+pub data CheckEnds (old new : SourceView) (before after : SinkView) (status : ℕ) : Type 0 where
   verdict_found : (v : Verdict) → IsVerdict old.given new.given v → (tells_end v ≡ true → Rose old.ends new.ends) → TellEnds before after v status →
       CheckEnds old new before after status
   read_failed : status ≡ 5 → Rose old.faults new.faults → after.taken ≡ before.taken → CheckEnds old new before after status

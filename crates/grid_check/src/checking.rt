@@ -28,12 +28,12 @@ fn open<S: Source>(feed: &mut Feed, input: &mut S) -> Result<Opened, CheckFault>
     requires first { feed.old.taken ≡ 0 }
     requires open { feed.old.ended ≡ false }
     ensures opens { IfOk result (λ found.
-        Opens (told (S.given input.old) (S.ends input.old))
-        (told (S.given input.new) (S.ends input.new)) feed.new found) }
-    ensures ends { S.ends input.old ≤ S.ends input.new }
-    ensures faults { S.faults input.old ≤ S.faults input.new }
+        Opens (told (S.view input.old).given (S.view input.old).ends)
+        (told (S.view input.new).given (S.view input.new).ends) feed.new found) }
+    ensures ends { (S.view input.old).ends ≤ (S.view input.new).ends }
+    ensures faults { (S.view input.old).faults ≤ (S.view input.new).faults }
     ensures cause { IsErrOf result CheckFault.Read →
-        Rose (S.faults input.old) (S.faults input.new) }
+        Rose (S.view input.old).faults (S.view input.new).faults }
 {
     'pieces: loop {
         match read_head(feed.waiting()) {
@@ -86,13 +86,13 @@ impl Checking {
     fn read_on<S: Source>(&mut self, input: &mut S) -> Result<Option<Verdict>, CheckFault>
         requires { BeginsEntry (waiting self.old.feed) }
         ensures goes { IfOk result (λ found.
-            GoesOn (told (S.given input.old) (S.ends input.old))
-            (told (S.given input.new) (S.ends input.new)) self.old self.new found) }
+            GoesOn (told (S.view input.old).given (S.view input.old).ends)
+            (told (S.view input.new).given (S.view input.new).ends) self.old self.new found) }
         ensures less { IfOk result (λ found. Lessens self.old.feed self.new.feed found) }
-        ensures ends { S.ends input.old ≤ S.ends input.new }
-        ensures faults { S.faults input.old ≤ S.faults input.new }
+        ensures ends { (S.view input.old).ends ≤ (S.view input.new).ends }
+        ensures faults { (S.view input.old).faults ≤ (S.view input.new).faults }
         ensures cause { IsErrOf result CheckFault.Read →
-            Rose (S.faults input.old) (S.faults input.new) }
+            Rose (S.view input.old).faults (S.view input.new).faults }
     {
         if self.feed.is_full() {
             return Ok(Some(Verdict::Limit));
@@ -133,13 +133,13 @@ impl Checking {
     ) -> Result<Option<Verdict>, CheckFault>
         requires { EntryRead (waiting self.old.feed) step }
         ensures goes { IfOk result (λ found.
-            GoesOn (told (S.given input.old) (S.ends input.old))
-            (told (S.given input.new) (S.ends input.new)) self.old self.new found) }
+            GoesOn (told (S.view input.old).given (S.view input.old).ends)
+            (told (S.view input.new).given (S.view input.new).ends) self.old self.new found) }
         ensures less { IfOk result (λ found. Lessens self.old.feed self.new.feed found) }
-        ensures ends { S.ends input.old ≤ S.ends input.new }
-        ensures faults { S.faults input.old ≤ S.faults input.new }
+        ensures ends { (S.view input.old).ends ≤ (S.view input.new).ends }
+        ensures faults { (S.view input.old).faults ≤ (S.view input.new).faults }
         ensures cause { IsErrOf result CheckFault.Read →
-            Rose (S.faults input.old) (S.faults input.new) }
+            Rose (S.view input.old).faults (S.view input.new).faults }
     {
         match step {
             EntryStep::Whole(entry, len) => self.take(entry, len),
@@ -153,13 +153,13 @@ impl Checking {
     /// Looks at the bytes that wait.
     fn look<S: Source>(&mut self, input: &mut S) -> Result<Option<Verdict>, CheckFault>
         ensures goes { IfOk result (λ found.
-            GoesOn (told (S.given input.old) (S.ends input.old))
-            (told (S.given input.new) (S.ends input.new)) self.old self.new found) }
+            GoesOn (told (S.view input.old).given (S.view input.old).ends)
+            (told (S.view input.new).given (S.view input.new).ends) self.old self.new found) }
         ensures less { IfOk result (λ found. Lessens self.old.feed self.new.feed found) }
-        ensures ends { S.ends input.old ≤ S.ends input.new }
-        ensures faults { S.faults input.old ≤ S.faults input.new }
+        ensures ends { (S.view input.old).ends ≤ (S.view input.new).ends }
+        ensures faults { (S.view input.old).faults ≤ (S.view input.new).faults }
         ensures cause { IsErrOf result CheckFault.Read →
-            Rose (S.faults input.old) (S.faults input.new) }
+            Rose (S.view input.old).faults (S.view input.new).faults }
     {
         match read_entry(self.alloc, self.feed.waiting()) {
             Ok(step) => self.follow(step, input),
@@ -170,11 +170,11 @@ impl Checking {
     /// Goes on to the verdict.
     fn run<S: Source>(&mut self, input: &mut S) -> Result<Verdict, CheckFault>
         ensures goes { IfOk result (λ v. (start : Told) →
-            HasRead start (told (S.given input.old) (S.ends input.old)) self.old →
-            IsTold start (told (S.given input.new) (S.ends input.new)) v) }
-        ensures faults { S.faults input.old ≤ S.faults input.new }
+            HasRead start (told (S.view input.old).given (S.view input.old).ends) self.old →
+            IsTold start (told (S.view input.new).given (S.view input.new).ends) v) }
+        ensures faults { (S.view input.old).faults ≤ (S.view input.new).faults }
         ensures cause { IsErrOf result CheckFault.Read →
-            Rose (S.faults input.old) (S.faults input.new) }
+            Rose (S.view input.old).faults (S.view input.new).faults }
     {
         'entries: loop {
             if let Some(verdict) = self.look(input)? {
@@ -187,14 +187,15 @@ impl Checking {
 /// Reads the input up to a verdict on it: whether it is the journal of a legal history, or what is wrong with it first.
 ///
 /// # Errors
-/// `Read` where a read failed, `Memory` for want of memory.
+/// `Read` where a read failed, `Memory` where there is no memory.
 pub fn check<S: Source>(alloc: Global, input: &mut S) -> Result<Verdict, CheckFault>
-    ensures says { IfOk result (λ v. IsVerdict (S.given input.old) (S.given input.new) v) }
+    ensures says { IfOk result (λ v. IsVerdict (S.view input.old).given (S.view input.new).given
+        v) }
     ensures end { IfOk result (λ v. tells_end v ≡ true →
-        Rose (S.ends input.old) (S.ends input.new)) }
-    ensures faults { S.faults input.old ≤ S.faults input.new }
+        Rose (S.view input.old).ends (S.view input.new).ends) }
+    ensures faults { (S.view input.old).faults ≤ (S.view input.new).faults }
     ensures cause { IsErrOf result CheckFault.Read →
-        Rose (S.faults input.old) (S.faults input.new) }
+        Rose (S.view input.old).faults (S.view input.new).faults }
 {
     let mut feed = Feed::new(alloc);
     match open(&mut feed, input)? {

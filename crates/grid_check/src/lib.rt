@@ -1,4 +1,4 @@
-//! Whether bytes are the journal of a legal history.
+//! Whether bytes are the journal of a legal history, and the words of a program that makes journals and checks them.
 //!
 //! Choices that concern this crate alone:
 //!
@@ -8,16 +8,23 @@
 //!   the pieces and however long the entry is.
 //! - `Limit` is answered as soon as 2^40 bytes were given without another verdict, and no byte is asked for after that.
 //! - The head is checked as soon as its first bytes are there: a wrong letter is no journal, however short the input is.
+//! - A journal is written entry by entry, and each is spelled only when the one before is written: besides the simulation there
+//!   is never more in memory than the spelling of one entry. So where memory is wanted, a front of whole entries was written.
 #![tactic(auto)]
 
 mod checking;
 mod feed;
 mod laws;
 mod lines;
+mod making;
 mod telling;
+mod top;
 mod verdict;
+mod writing;
 
 pub use checking::check;
 pub use laws::texts_have_one_verdict;
-pub use telling::{NO_MEMORY, WRITE_FAILED, run_check, write_all};
+pub use making::make_journal;
+pub use telling::run_check;
+pub use top::check_main;
 pub use verdict::{CheckFault, Verdict};

@@ -2,43 +2,26 @@
 ghost use Rattle.std.specs.Prelude.{◌≡◌, OnOk, OnErr, ℕ};
 ghost use Rattle.grid_outside.specs.Counts.{HasCause};
 ghost use Rattle.grid_outside.specs.Told.{Gains};
-ghost use Rattle.grid_check.specs.Running.{CheckEnds, TellEnds, TookFront, read_so_far, written};
+ghost use Rattle.grid_check.specs.Running.{CheckEnds, TellEnds};
 
 use crate::checking::check;
 use crate::lines::{line_of, status_of};
 use crate::verdict::{CheckFault, Verdict};
-use grid_outside::{Failed, Sink, Source};
+use grid_outside::{Sink, Source, write_all};
 use std::alloc::Global;
 
 /// A read failed.
 const READ_FAILED: u8 = 5;
 
 /// The status where a write failed.
-pub const WRITE_FAILED: u8 = 6;
+pub(crate) const WRITE_FAILED: u8 = 6;
 
 /// The status where memory was wanted and there was none.
-pub const NO_MEMORY: u8 = 7;
-
-/// Writes all bytes, or up to the first write that fails.
-pub fn write_all<K: Sink>(output: &mut K, bytes: &[u8]) -> Result<(), Failed>
-    ensures ok { OnOk result (Gains (K.taken output.old) (K.taken output.new) bytes.now) }
-    ensures err { OnErr result (TookFront (K.taken output.old) (K.taken output.new) bytes.now) }
-    ensures cause { HasCause (K.faults output.old) (K.faults output.new) result }
-{
-    let mut done = 0;
-    'pieces: while done < bytes.len() {
-        match output.write(&bytes[done..]) {
-            Ok(count) => done += count,
-            Err(failed) => return Err(failed),
-        }
-    }
-    Ok(())
-}
+pub(crate) const NO_MEMORY: u8 = 7;
 
 /// Writes the verdict's line: the status of a program that does just that.
 fn tell<K: Sink>(alloc: Global, verdict: &Verdict, output: &mut K) -> u8
-    ensures { TellEnds (written (K.taken output.old) (K.faults output.old))
-        (written (K.taken output.new) (K.faults output.new)) verdict.now result }
+    ensures { TellEnds (K.view output.old) (K.view output.new) verdict.now result }
 {
     match line_of(alloc, verdict) {
         Ok(line) => match write_all(output, line.as_str().as_bytes()) {
@@ -52,10 +35,10 @@ fn tell<K: Sink>(alloc: Global, verdict: &Verdict, output: &mut K) -> u8
 /// Checks the input and writes a line with the verdict: the status of a program that does just that. It is 0 where the
 /// input is the journal of a legal history, 1 where an entry is not permitted, 2 where no entry begins, 3 where the input
 /// is cut off, 4 where it is no journal and 9 where it has more bytes than are looked at; 5 where a read failed, 6 where
-/// a write failed, and 7 for want of memory.
+/// a write failed, and 7 out of memory.
 pub fn run_check<S: Source, K: Sink>(alloc: Global, input: &mut S, output: &mut K) -> u8
-    ensures { CheckEnds (read_so_far (S.given input.old) (S.ends input.old) (S.faults input.old)) (read_so_far (S.given input.new) (S.ends input.new) (S.faults input.new))
-        (written (K.taken output.old) (K.faults output.old)) (written (K.taken output.new) (K.faults output.new)) result }
+    ensures { CheckEnds (S.view input.old) (S.view input.new)
+        (K.view output.old) (K.view output.new) result }
 {
     match check(alloc, input) {
         Ok(verdict) => tell(alloc, &verdict, output),

@@ -1,10 +1,10 @@
 //! Makes the journal of a simulation on standard output, or checks a journal on standard input.
 #![tactic(auto)]
 
+use grid_check::check_main;
 use grid_console::{Asked, NoWords, words};
 use grid_outside::{StandardInput, StandardOutput};
 use grid_types::Text;
-use journal_check::check_main;
 use std::alloc::Global;
 use std::process::ExitCode;
 

@@ -7,3 +7,8 @@ pub mod WayLemmas
 pub mod WorkLemmas
 pub mod WorkSeatLemmas
 pub mod WorkStageLemmas
+pub mod GoesLemmas
+pub mod HandLemmas
+pub mod HireLemmas
+pub mod ListLemmas
+pub mod StintLemmas

@@ -12,13 +12,15 @@ use Rattle.hub_cell.specs.declared.hub.CellFault.{CellFault}
 use Rattle.hub_cell.specs.declared.hub.CellFault.TheVariants as fault
 use Rattle.hub_cell.specs.Passes.{IsFault, IsSpent, config_of}
 use Rattle.hub_cell.specs.Shared.{HasClosing, LooksOnce, SharedServes}
+use Rattle.node_client.specs.ClockSteps.{PausesFor, Ticks}
 use Rattle.node_client.specs.Asks.{quit_ask}
 use Rattle.node_client.specs.Steps.{Step, Called, Spent, Exchanged, Paused, lacked}
 use Rattle.hub_workers.specs.Amid.{Goes}
 use Rattle.hub_workers.specs.TickStages.{BeginsToEnd, EndedAll, EndedSome, EndsOne, TickSays, Ticking, Unanswered}
-use Rattle.hub_workers.specs.Turns.{AsksToEnd, TickerSpent, TickerTurn, asked, ends_idle, ends_with_pause, expire_spent, freed_spent, later_spent, look_spent, looks_lack, none_yet, not_asked, one_more, sweep_lacks, sweep_spent, swept, ticker_pause}
+use Rattle.node_client.specs.Quitting.{AsksToEnd, asked, not_asked}
+use Rattle.hub_workers.specs.Turns.{TickerSpent, TickerTurn, ends_idle, ends_with_pause, expire_spent, freed_spent, later_spent, look_spent, looks_lack, none_yet, one_more, sweep_lacks, sweep_spent, swept, ticker_pause}
 use Rattle.hub_workers.specs.World.{Knowledge, Went, World, world_of}
-use Rattle.hub_workers.specs.WorldLaws.{PausesFor, Ticks, went_call, went_exchange, went_none, went_pause, went_spent}
+use Rattle.hub_workers.specs.WorldLaws.{went_call, went_exchange, went_none, went_pause, went_spent}
 use Rattle.hub_workers.specs.declared.acts.WorkAct.{WorkAct}
 use Rattle.hub_workers.specs.declared.acts.WorkAct.TheVariants as acts
 use Rattle.hub_workers.specs.declared.tick_steps.TickStage.{TickStage}

@@ -5,11 +5,11 @@ use Rattle.grid_types.specs.declared.capabilities.Cap.{Cap}
 use Rattle.grid_types.specs.declared.entry.FailWhy.{FailWhy}
 use Rattle.grid_types.specs.Tokens.{Reservation, Closing}
 use Rattle.grid_types.specs.Calls.{Call, Reply}
+use Rattle.grid_types.specs.HandedIn.{hands_reservation}
 use Rattle.grid_types.specs.Permitted.{is_start_failure}
 use Rattle.hub_core.specs.declared.answers.Binding.{Binding}
 use Rattle.hub_core.specs.declared.answers.Failing.{Failing}
-use Rattle.hub_core.specs.Replies.{binding_reply, KeepsReservation}
-use Rattle.hub_core.specs.Serves.{hands_reservation}
+use Rattle.hub_core.specs.Replies.{binding_reply}
 use Rattle.http_frames.specs.declared.writing.NodeRequest.{NodeRequest}
 use Rattle.grid_outside.specs.Told.{ClockView, Tick}
 use Rattle.grid_outside.specs.declared.exchange.Ask.{Ask}
@@ -18,6 +18,7 @@ use Rattle.grid_types.specs.declared.spent.Spent as spent
 use Rattle.hub_cell.specs.declared.hub.SharedHub.{SharedHub}
 use Rattle.hub_cell.specs.Passes.{IsSpent, config_of}
 use Rattle.hub_cell.specs.Shared.{GivesTokens, HasClosing, HasReservation, HasTokens, SharedServes}
+use Rattle.node_client.specs.ClockSteps.{Ticks}
 use Rattle.node_client.specs.declared.wants.CarryAnswer.{CarryAnswer}
 use Rattle.node_client.specs.declared.wants.CarryAnswer.TheVariants as answers
 use Rattle.node_client.specs.declared.wants.CarryEnd.{CarryEnd}
@@ -27,10 +28,10 @@ use Rattle.node_client.specs.declared.carry.Carry.{Carry}
 use Rattle.node_client.specs.Steps.{Step, Called, Exchanged}
 use Rattle.node_client.specs.Start.{Refuses, late, node_gone, duplicate, mismatch}
 use Rattle.node_client.specs.Places.{Place, at_start, at_bind, at_return, at_fail, at_quit, at_free, at_end, Wanted, to_ask, to_call, over, Shows, wanted_at, made, asked_step, called_step, IsAsk, Fits, Moves, named, failed_at_node, was_bound, to_quit, to_free, found_no_memory, was_returned, was_quit, gave_up, was_freed}
-use Rattle.node_client.specs.Carrying.{Stands, HandsOut, Takes, Feeds, Moved, Finished, FinishedAt, Bind, Fail, Freed}
+use Rattle.node_client.specs.Carrying.{Stands, HandsOut, Feeds, Moved, Finished, FinishedAt, Freed}
 use Rattle.hub_workers.specs.Carried.{HasAt, IsOver, IsUnder, Turned}
 use Rattle.hub_workers.specs.World.{Knowledge, World, world_of}
-use Rattle.hub_workers.specs.WorldLaws.{Ticks, answers_at, went_call, went_exchange, went_spent}
+use Rattle.hub_workers.specs.WorldLaws.{answers_at, went_call, went_exchange, went_spent}
 
 pub good_node : (v : Knowledge) (r : Reservation) (place to : Place) (came : Came) → Moves r place (answers.Node came) to → HasAt v r place → HasAt v r to
 good_node v r _ _ _ (named answer session caps says) good = good
@@ -159,48 +160,3 @@ pub may_free : (carry : Carry) (v : Knowledge) (c : Closing) → IsUnder carry v
 may_free carry v c under told =
     let t = told under.r under.place under.steps under.stands in
     subst (λ (p : Place). HasAt v under.r p) t under.good
-
--- ---- what was taken is what is wanted
-
-pub bind_wanted : (old : Carry) (q : Reservation) (session : List ℕ) (caps : List Cap) →
-    ((r : Reservation) (place : Place) (steps : List Step) → Stands old r place steps → (r ≡ q) × (place ≡ at_bind session caps)) →
-    (r : Reservation) (place : Place) (steps : List Step) → Stands old r place steps → wanted_at r place ≡ to_call (Call.bind q session caps)
-bind_wanted old q session caps call r place steps st =
-    let t = call r place steps st in
-    ap (wanted_at r) t.1 ∙ ap (λ (k : Reservation). to_call (Call.bind k session caps)) t.0
-
-pub fail_wanted : (old : Carry) (q : Reservation) (y : FailWhy) →
-    ((r : Reservation) (place : Place) (steps : List Step) → Stands old r place steps → (r ≡ q) × (place ≡ at_fail y)) →
-    (r : Reservation) (place : Place) (steps : List Step) → Stands old r place steps → wanted_at r place ≡ to_call (Call.fail q y)
-fail_wanted old q y call r place steps st =
-    let t = call r place steps st in
-    ap (wanted_at r) t.1 ∙ ap (λ (k : Reservation). to_call (Call.fail k y)) t.0
-
-pub free_wanted : (old : Carry) (c : Closing) →
-    ((r : Reservation) (place : Place) (steps : List Step) → Stands old r place steps → place ≡ at_free c) →
-    (r : Reservation) (place : Place) (steps : List Step) → Stands old r place steps → wanted_at r place ≡ to_call (Call.freed c)
-free_wanted old c call r place steps st = ap (wanted_at r) (call r place steps st)
-
-pub told_bind : (old mid : Carry) (q : Reservation) (session : List ℕ) (caps : List Cap) (b : Binding) → Takes old Bind mid →
-    ((r : Reservation) (place : Place) (steps : List Step) → Stands old r place steps → (r ≡ q) × (place ≡ at_bind session caps)) → KeepsReservation q session b →
-    (r : Reservation) (place : Place) (steps : List Step) → Stands old r place steps →
-    Stands mid r place steps × (wanted_at r place ≡ to_call (Call.bind q session caps)) × Fits (answers.Bound b) (wanted_at r place)
-told_bind old mid q session caps b takes call back r place steps st =
-    let w = bind_wanted old q session caps call r place steps st in
-    (takes.stands r place steps st, w, subst (λ (z : Wanted). Fits (answers.Bound b) z) (sym w) back)
-
-pub told_fail : (old mid : Carry) (q : Reservation) (y : FailWhy) (f : Failing) → Takes old Fail mid →
-    ((r : Reservation) (place : Place) (steps : List Step) → Stands old r place steps → (r ≡ q) × (place ≡ at_fail y)) →
-    (r : Reservation) (place : Place) (steps : List Step) → Stands old r place steps →
-    Stands mid r place steps × (wanted_at r place ≡ to_call (Call.fail q y)) × Fits (answers.Failed f) (wanted_at r place)
-told_fail old mid q y f takes call r place steps st =
-    let w = fail_wanted old q y call r place steps st in
-    (takes.stands r place steps st, w, subst (λ (z : Wanted). Fits (answers.Failed f) z) (sym w) tt)
-
-pub told_free : (old mid : Carry) (c : Closing) → Takes old Freed mid →
-    ((r : Reservation) (place : Place) (steps : List Step) → Stands old r place steps → place ≡ at_free c) →
-    (r : Reservation) (place : Place) (steps : List Step) → Stands old r place steps →
-    Stands mid r place steps × (wanted_at r place ≡ to_call (Call.freed c)) × Fits answers.Freed (wanted_at r place)
-told_free old mid c takes call r place steps st =
-    let w = free_wanted old c call r place steps st in
-    (takes.stands r place steps st, w, subst (λ (z : Wanted). Fits answers.Freed z) (sym w) tt)

@@ -1,5 +1,5 @@
 -- The turns of workers and of tickers.
-use Rattle.std.proofs.Common.{◌≡◌, inl, inr, ℕ, ◌+◌, ◌<◌, Bool, true, false, not, List, [], ◌∷◌, ◌++◌, refl, sym, ap, subst, ◌∙◌, arith}
+use Rattle.std.proofs.Common.{◌≡◌, inl, inr, ℕ, ◌+◌, ◌<◌, Bool, true, false, List, [], ◌∷◌, ◌++◌, refl, sym, ap, subst, ◌∙◌, arith}
 use Rattle.std.specs.Prelude.{Option, None, Some}
 use Rattle.grid_types.specs.Tokens.{Reservation, Closing}
 use Rattle.grid_types.specs.Calls.{Call, Reply}
@@ -10,33 +10,21 @@ use Rattle.grid_types.specs.declared.spent.Spent as spent
 use Rattle.hub_cell.specs.declared.hub.SharedHub.{SharedHub}
 use Rattle.hub_cell.specs.Passes.{IsSpent, config_of}
 use Rattle.hub_cell.specs.Shared.{LooksOnce, SharedServes}
+use Rattle.node_client.specs.ClockSteps.{PausesFor, Ticks}
 use Rattle.node_client.specs.Asks.{quit_ask}
 use Rattle.node_client.specs.declared.wants.CarryEnd.{CarryEnd}
-use Rattle.node_client.specs.Steps.{Step, Called, Spent, Exchanged, Paused, lacked, spent_looks}
+use Rattle.node_client.specs.Steps.{Step, Called, Spent, Exchanged, Paused, spent_looks}
 use Rattle.node_client.specs.Runs.{Exchanges}
 use Rattle.hub_workers.specs.Carried.{CarriedOff, CarriedOut}
-use Rattle.hub_workers.specs.Turns.{AfterSweep, AfterSweepSpent, AllEnd, AsksAndFrees, AsksAndStops, AsksOnce, AsksToEnd, EndsIdle, EndsSo, Finishes, IdleSpent, Looked, LookedAll, StopsBefore, TickerSpent, TickerTurn, Turns, OneTurn, WentBy, Worked, WorkerSpent, WorkerTurn, asked, dispatch_lacks, dispatch_spent, ends_idle, expire_spent, finds_nothing, freed_spent, later_spent, look_spent, looks_lack, no_turn, none_yet, not_asked, one_more, one_turn_more, ends_with_pause, spent_after, start_spent, starts, sweep_lacks, sweep_spent, swept, ticker_pause, worker_pause}
+use Rattle.node_client.specs.Quitting.{AsksOnce, AsksToEnd, asked, not_asked}
+use Rattle.hub_workers.specs.Turns.{AfterSweep, AfterSweepSpent, AllEnd, AsksAndFrees, AsksAndStops, EndsIdle, EndsSo, Finishes, IdleSpent, Looked, LookedAll, StopsBefore, TickerSpent, TickerTurn, Turns, OneTurn, WentBy, Worked, WorkerSpent, WorkerTurn, dispatch_lacks, dispatch_spent, ends_idle, expire_spent, finds_nothing, freed_spent, later_spent, look_spent, looks_lack, no_turn, none_yet, one_more, one_turn_more, ends_with_pause, spent_after, start_spent, starts, sweep_lacks, sweep_spent, swept, ticker_pause, worker_pause}
 use Rattle.hub_workers.specs.World.{AnswersAt, Knowledge, Went, World, world_of}
 use Rattle.hub_workers.specs.declared.ends.WorkerEnd.{WorkerEnd}
 use Rattle.hub_workers.specs.declared.ends.WorkerEnd.TheVariants as ends
 use Rattle.hub_workers.specs.declared.ticking.Idle.{Idle}
 use Rattle.hub_workers.specs.declared.ticking.Idle.TheVariants as idle
-use Rattle.hub_workers.specs.WorldLaws.{PausesFor, Ticks, answered_spent, went_call, went_exchange, went_more, went_none, went_pause, went_spent}
+use Rattle.hub_workers.specs.WorldLaws.{answered_spent, went_call, went_exchange, went_more, went_none, went_pause, went_spent}
 use Rattle.hub_workers.proofs.LookLemmas.{looks-both, spent_start_looks, start_looks}
-
-module _ {N : Type 0} (gives : N → List ℕ → Ask → Came → N → Type 0) where
-  pub asks_none : (c : Closing) (n : N) → c.quit ≡ false → AsksOnce gives c n true n
-  unfolding Exchanges
-  asks_none c n q = ([], not_asked q, refl)
-
-  pub asks_once : (c : Closing) (address : List ℕ) (ask : Ask) (came : Came) (sent : Bool) (n n' : N) → c.quit ≡ true → address ≡ c.address → ask ≡ quit_ask c.session →
-      sent ≡ not (lacked came) → gives n address ask came n' → AsksOnce gives c n sent n'
-  unfolding Exchanges
-  asks_once c address ask came sent n n' q a k s gave = (
-    Exchanged c.address (quit_ask c.session) came ∷ [],
-    subst (λ (b : Bool). AsksToEnd c b (Exchanged c.address (quit_ask c.session) came ∷ [])) (sym s) (asked came q),
-    (n', subst (λ (z : Ask). gives n c.address z came n') k (subst (λ (z : List ℕ). gives n z ask came n') a gave), refl),
-  )
 
 module _ {N C : Type 0} (hub : SharedHub) (gives : N → List ℕ → Ask → Came → N → Type 0) (tells : C → Tick → ℕ → C → Type 0) where
   -- ---- workers

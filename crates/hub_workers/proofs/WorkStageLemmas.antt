@@ -11,6 +11,7 @@ use Rattle.grid_outside.specs.Exchanges.{Came, CameSo, ask_of}
 use Rattle.hub_cell.specs.declared.hub.SharedHub.{SharedHub}
 use Rattle.hub_cell.specs.Passes.{IsSpent, config_of}
 use Rattle.hub_cell.specs.Shared.{SharedServes}
+use Rattle.node_client.specs.ClockSteps.{PausesFor, Ticks}
 use Rattle.node_client.specs.declared.wants.CarryAnswer.{CarryAnswer}
 use Rattle.node_client.specs.declared.wants.CarryAnswer.TheVariants as answers
 use Rattle.node_client.specs.declared.wants.CarryEnd.{CarryEnd}
@@ -26,7 +27,7 @@ use Rattle.hub_workers.specs.Carried.{HasAt, IsUnder, spent_at}
 use Rattle.hub_workers.specs.Turns.{IsLastTicket, WorkerSpent, WorkerTurn, dispatch_lacks, dispatch_spent, finds_nothing, start_spent, starts, worker_pause}
 use Rattle.hub_workers.specs.WorkStages.{AsksSo, FindsNothing, StartsSo, WorkSays, Works, no_memory, nothing_there}
 use Rattle.hub_workers.specs.World.{AnswersAt, Knowledge, Went, World, world_of}
-use Rattle.hub_workers.specs.WorldLaws.{PausesFor, Ticks, answers_at, went_call, went_exchange, went_none, went_pause, went_spent}
+use Rattle.hub_workers.specs.WorldLaws.{answers_at, went_call, went_exchange, went_none, went_pause, went_spent}
 use Rattle.hub_workers.specs.declared.acts.WorkAct.TheVariants as acts
 use Rattle.hub_workers.specs.declared.work_steps.WorkStage.{WorkStage}
 use Rattle.hub_workers.specs.declared.work_steps.WorkStage.TheVariants as stages

@@ -1,7 +1,7 @@
 -- How a shared clock goes on, and what a call and a pause of one connection make of it.
 use Rattle.std.proofs.Common.{◌≡◌, ℕ, ◌≤◌, sym, subst, arith}
 use Rattle.grid_outside.specs.Told.{ClockView, Tick, to_tell, later_by, untold}
-use Rattle.hub_workers.specs.WorldLaws.{PausesFor, Ticks}
+use Rattle.node_client.specs.ClockSteps.{PausesFor, Ticks}
 use Rattle.hub_workers.specs.SharedClock.{Asked, not_asked, asked_on, Remembers, SharedTells}
 
 module _ {C : Type 0} (tells : C → Tick → ℕ → C → Type 0) (view : C → ClockView) where

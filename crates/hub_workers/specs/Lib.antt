@@ -10,3 +10,5 @@ pub mod WorkSeats
 pub mod WorkStages
 pub mod World
 pub mod WorldLaws
+pub mod Crews
+pub mod Hands

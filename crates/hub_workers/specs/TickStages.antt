@@ -14,7 +14,8 @@ use Rattle.node_client.specs.Steps.{Step, Called}
 use Rattle.hub_workers.specs.Amid.{Goes, Says}
 use Rattle.hub_workers.specs.Benches.{now_of}
 use Rattle.hub_workers.specs.SharedClock.{SharedTells}
-use Rattle.hub_workers.specs.Turns.{AllEnd, AsksToEnd, IsLastTicket, LookedAll, TickerSpent, TickerTurn, ticker_pause}
+use Rattle.node_client.specs.Quitting.{AsksToEnd}
+use Rattle.hub_workers.specs.Turns.{AllEnd, IsLastTicket, LookedAll, TickerSpent, TickerTurn, ticker_pause}
 use Rattle.hub_workers.specs.World.{Knowledge}
 use Rattle.hub_workers.specs.declared.acts.WorkAct.{WorkAct}
 use Rattle.hub_workers.specs.declared.acts.WorkAct.TheVariants as acts

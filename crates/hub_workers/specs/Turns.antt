@@ -1,5 +1,5 @@
 -- The turns of workers and of tickers.
-use Rattle.std.specs.Prelude.{◌≡◌, ◌⊎◌, ℕ, ◌+◌, ◌<◌, ◌^◌, max, Bool, true, false, not, List, [], ◌∷◌, ◌++◌, Option, None, Some}
+use Rattle.std.specs.Prelude.{◌≡◌, ◌⊎◌, ℕ, ◌+◌, ◌<◌, ◌^◌, max, Bool, true, false, List, [], ◌∷◌, ◌++◌, Option, None, Some}
 use Rattle.grid_types.specs.Tokens.{Reservation, Closing}
 use Rattle.grid_types.specs.Calls.{Call, Reply}
 use Rattle.grid_outside.specs.Told.{Tick}
@@ -8,9 +8,8 @@ use Rattle.grid_outside.specs.Exchanges.{Came}
 use Rattle.grid_types.specs.declared.spent.Spent as spent
 use Rattle.hub_cell.specs.declared.hub.SharedHub.{SharedHub}
 use Rattle.hub_cell.specs.Passes.{first_of}
-use Rattle.node_client.specs.Asks.{quit_ask}
-use Rattle.node_client.specs.Runs.{Exchanges}
-use Rattle.node_client.specs.Steps.{Step, Called, Spent, Exchanged, Paused, lacked}
+use Rattle.node_client.specs.Quitting.{AsksToEnd}
+use Rattle.node_client.specs.Steps.{Step, Called, Spent, Paused}
 use Rattle.node_client.specs.Start.{Start}
 use Rattle.hub_workers.specs.Carried.{SpentStart}
 use Rattle.hub_workers.specs.World.{Went, World}
@@ -44,16 +43,6 @@ pub data WorkerSpent : List Step → Type 0 where
       WorkerSpent (Called Call.dispatch at (Some (Reply.assigned r)) ∷ own)
 
 -- ---- tickers
-
--- The node is asked to end the session, whatever comes of that, unless a session of its id is live at the same address. It
--- was not asked where there was no memory for it.
-pub data AsksToEnd (c : Closing) : (sent : Bool) → List Step → Type 0 where
-  asked : (came : Came) → c.quit ≡ true →
-      AsksToEnd c (not (lacked came)) (Exchanged c.address (quit_ask c.session) came ∷ [])
-  not_asked : c.quit ≡ false → AsksToEnd c true []
-
-abbrev pub AsksOnce : {N : Type 0} → (N → List ℕ → Ask → Came → N → Type 0) → Closing → N → Bool → N → Type 0
-AsksOnce gives c old sent new = (steps : List Step) × AsksToEnd c sent steps × Exchanges gives old steps new
 
 -- and then the slot of the session is freed
 pub record AsksAndFrees (c : Closing) (sent : Bool) (steps : List Step) : Type 0 where

@@ -1,47 +1,22 @@
 -- How the world goes on by single steps, and by steps one after the other; and what a pass counts.
-use Rattle.std.proofs.Common.{◌≡◌, inl, inr, ℕ, ◌+◌, ◌≤◌, List, [], ◌∷◌, ◌++◌, refl, sym, ap, subst, ◌∙◌, append-nil, append_assoc, arith}
+use Rattle.std.proofs.Common.{◌≡◌, inl, inr, ℕ, ◌+◌, List, [], ◌∷◌, ◌++◌, refl, sym, ap, subst, ◌∙◌, append-nil, append_assoc, arith}
 use Rattle.std.specs.Prelude.{Option, None, Some, IfSome}
 use mathlib.Core.List.{IsPrefix}
 use Rattle.grid_types.specs.declared.entry.Entry.{Entry}
 use Rattle.grid_types.specs.Calls.{Call, Reply}
 use Rattle.grid_types.specs.declared.entry.Found.TheVariants as found
-use Rattle.grid_outside.specs.Told.{ClockView, Pauses, Tick, later_by, paused, to_tell, to_wait}
+use Rattle.grid_outside.specs.Told.{ClockView, Tick, Pauses, later_by, paused, to_tell, to_wait}
 use Rattle.grid_outside.specs.declared.exchange.Ask.{Ask}
 use Rattle.grid_outside.specs.Exchanges.{Came}
 use Rattle.grid_types.specs.declared.spent.Spent as spent
 use Rattle.hub_cell.specs.declared.hub.SharedHub.{SharedHub}
 use Rattle.hub_cell.specs.Passes.{IsSpent, config_of}
 use Rattle.hub_cell.specs.Shared.{SharedServes, TookTurn}
+use Rattle.node_client.specs.ClockSteps.{Ticks, PausesFor, keeps_time_none}
 use Rattle.node_client.specs.Steps.{Step, Called, Spent, Exchanged, Paused, spent_looks}
-use Rattle.node_client.specs.Runs.{Clocked, Exchanges, KeepsTime, Still, Timed, pauses_after}
+use Rattle.node_client.specs.Runs.{Clocked, Exchanges, Still, Timed, pauses_after, KeepsTime}
 use Rattle.node_client.specs.RunLaws.{clocked_more, exchanges_more, keeps_time_more}
 use Rattle.hub_workers.specs.World.{Answered, AnswersAt, FindsInMap, Knowledge, Went, World, world_of}
-
--- a clock that was not asked kept time
-keeps_time_none : (time : ClockView) → KeepsTime time [] time
-unfolding Timed Still pauses_after
-keeps_time_none time = record { timed = omega arith; told = by_pauses time.pauses refl }
-  where
-    by_pauses : (o : Option Pauses) → time.pauses ≡ o → IfSome o (λ p. (time.pauses ≡ Some p) × (time.moment ≡ time.moment))
-    by_pauses None e = tt
-    by_pauses (Some p) e = (e, refl)
-
--- what the clock gave at a call that followed
-pub record Ticks {C : Type 0} (tells : C → Tick → ℕ → C → Type 0) (m : C) (at : ℕ) (m' : C) (time time' : ClockView) : Type 0 where
-  pub gave : tells m to_tell at m'
-  pub later : time.moment ≤ at
-  pub before : at ≤ time'.moment
-  pub told : IfSome time.pauses (λ p. (time'.pauses ≡ Some p) × ((at ≡ time.moment) × (time'.moment ≡ time.moment)))
-
-pub ticked : {C : Type 0} (tells : C → Tick → ℕ → C → Type 0) (m : C) (at : ℕ) (m' : C) (time time' : ClockView) → tells m to_tell at m' →
-    at ≡ time'.moment → time.moment ≤ time'.moment → IfSome time.pauses (λ p. (time'.pauses ≡ Some p) × (time'.moment ≡ time.moment)) → Ticks tells m at m' time time'
-ticked tells m at m' time time' gave is later still =
-    record { gave = gave; later = omega (arith, is, later); before = omega (arith, is); told = by_pauses time.pauses still }
-  where
-    by_pauses : (o : Option Pauses) → IfSome o (λ p. (time'.pauses ≡ Some p) × (time'.moment ≡ time.moment)) →
-        IfSome o (λ p. (time'.pauses ≡ Some p) × ((at ≡ time.moment) × (time'.moment ≡ time.moment)))
-    by_pauses None h = tt
-    by_pauses (Some p) h = (h.0, (is ∙ h.1, h.1))
 
 pub answers_at : (hub : SharedHub) (v : Knowledge) (call : Call) (at : ℕ) (reply : Option Reply) (w : Knowledge) → SharedServes (config_of hub) v call at reply w → AnswersAt hub v call at reply w
 answers_at hub v call at None w serves = inl serves
@@ -128,13 +103,6 @@ answered_seen hub old new (Spent call at ∷ steps) a =
     subst (λ (xs : List Entry). IsPrefix xs new.seen) (ap (λ (v : Knowledge). v.seen) a.2.1) (answered_seen hub a.0 new steps a.3)
 answered_seen hub old new (Exchanged address ask came ∷ steps) a = answered_seen hub old new steps a
 answered_seen hub old new (Paused ms ∷ steps) a = answered_seen hub old new steps a
-
--- a pause of the clock
-pub record PausesFor {C : Type 0} (tells : C → Tick → ℕ → C → Type 0) (ms : ℕ) (m m' : C) (time time' : ClockView) : Type 0 where
-  pub at : ℕ
-  pub gave : tells m (to_wait ms) at m'
-  pub long_enough : later_by time.moment ms ≤ time'.moment
-  pub told : IfSome time.pauses (λ p. (time'.pauses ≡ Some (paused ms p)) × (time'.moment ≡ later_by time.moment ms))
 
 module _ {N C : Type 0} (hub : SharedHub) (gives : N → List ℕ → Ask → Came → N → Type 0) (tells : C → Tick → ℕ → C → Type 0) where
   -- one call of the hub

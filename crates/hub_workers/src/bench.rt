@@ -2,7 +2,7 @@
 ghost use Rattle.std.specs.Prelude.{◌≡◌, ◌<◌, IfNone, IfSome};
 ghost use Rattle.grid_outside.specs.Told.{later_by, untold};
 ghost use Rattle.hub_workers.specs.SharedClock.{Asked, Remembers, SharedTells};
-ghost use Rattle.hub_workers.specs.WorldLaws.{PausesFor, Ticks};
+ghost use Rattle.node_client.specs.ClockSteps.{PausesFor, Ticks};
 
 use grid_outside::Clock;
 use grid_types::{LAST_MOMENT, Moment};

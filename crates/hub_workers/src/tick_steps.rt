@@ -11,12 +11,12 @@ ghost use Rattle.hub_workers.specs.declared.tick_steps.TickStage.TheVariants as 
 
 use crate::acts::WorkAct;
 use crate::bench::{Bench, tell, wait};
-use crate::ticking::{PAUSE_MS, was_sent};
+use crate::ticking::PAUSE_MS;
 use grid_outside::{Clock, NodeLine};
 use grid_types::Spent;
 use hub_cell::{CellFault, SharedHub};
 use hub_core::{Closing, Expiring};
-use node_client::{SessionPath, quit_request};
+use node_client::{SessionPath, quit_request, was_sent};
 use std::alloc::Global;
 use std::sync::Wait;
 

@@ -1,17 +1,16 @@
 //! Tickers, which let go what is over by its time.
-ghost use Rattle.std.specs.Prelude.{◌≡◌, ◌≢◌, ℕ, not, IfSome};
+ghost use Rattle.std.specs.Prelude.{◌≡◌, ◌≢◌, IfSome};
 ghost use Rattle.hub_cell.specs.Passes.{IsOf, knows};
 ghost use Rattle.hub_cell.specs.Shared.{HasClosing};
-ghost use Rattle.node_client.specs.Steps.{lacked};
-ghost use Rattle.hub_workers.specs.Turns.{AfterSweep, AfterSweepSpent, AsksOnce, Finishes, IsLastTicket, LookTellsLast, Looked, LookedAll, OneTurn, TellsLast, TickerSpent, TickerTurn, WentBy, Worked, spent_after};
+ghost use Rattle.hub_workers.specs.Turns.{AfterSweep, AfterSweepSpent, Finishes, IsLastTicket, LookTellsLast, Looked, LookedAll, OneTurn, TellsLast, TickerSpent, TickerTurn, WentBy, Worked, spent_after};
 ghost use Rattle.hub_workers.specs.World.{world_of};
 
 use crate::ends::WorkerEnd;
-use grid_outside::{Clock, ExchangeFault, NodeLink, Reply};
+use grid_outside::{Clock, NodeLink};
 use grid_types::Spent;
 use hub_cell::{CellFault, Pass, SharedHub};
 use hub_core::{Closing, Expiring};
-use node_client::{SessionPath, quit_request};
+use node_client::ask_to_end;
 use std::alloc::Global;
 use std::sync::Wait;
 
@@ -28,29 +27,6 @@ pub enum Idle {
     /// Out of memory, for the call or for the request to the node.
     Lacks,
     Spent(Spent),
-}
-
-pub fn was_sent(came: &Result<Reply, ExchangeFault>) -> bool
-    ensures { result ≡ not (lacked came.now) }
-{
-    match came {
-        Err(ExchangeFault::Memory) => false,
-        Err(ExchangeFault::Unreachable) => true,
-        Ok(_) => true,
-    }
-}
-
-/// Asks the node of the closing to end its session, where that is called for. False is want of
-/// memory: it was not asked.
-fn ask_to_end<N: NodeLink>(alloc: Global, closing: &Closing, nodes: &mut N) -> bool
-    ensures { AsksOnce N.gives closing.now nodes.old result nodes.new }
-{
-    if closing.quit() {
-        let path = SessionPath::of(&closing.session());
-        let came = nodes.exchange(alloc, &closing.address(), &quit_request(path.as_bytes()));
-        return was_sent(&came);
-    }
-    true
 }
 
 /// Has the session of the closing ended at its node, and frees its slot.

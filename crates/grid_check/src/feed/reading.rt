@@ -89,15 +89,15 @@ impl Feed {
     fn read_piece<S: Source>(&mut self, input: &mut S) -> Result<(), CheckFault>
         requires open { self.old.ended ≡ false }
         requires room { self.old.taken + length (waiting self.old) < 2 ^ 40 }
-        ensures reads { OnOk result (Reads self.old self.new (S.given input.old)
-            (S.given input.new)) }
+        ensures reads { OnOk result (Reads self.old self.new (S.view input.old).given
+            (S.view input.new).given) }
         ensures more { OnOk result (HasMore self.old self.new) }
         ensures end { OnOk result (self.new.ended ≡ true →
-            Rose (S.ends input.old) (S.ends input.new)) }
-        ensures ends { S.ends input.old ≤ S.ends input.new }
-        ensures faults { S.faults input.old ≤ S.faults input.new }
+            Rose (S.view input.old).ends (S.view input.new).ends) }
+        ensures ends { (S.view input.old).ends ≤ (S.view input.new).ends }
+        ensures faults { (S.view input.old).faults ≤ (S.view input.new).faults }
         ensures cause { IsErrOf result CheckFault.Read →
-            Rose (S.faults input.old) (S.faults input.new) }
+            Rose (S.view input.old).faults (S.view input.new).faults }
     {
         let mut piece = [0; PIECE_BYTES];
         let left = MOST_BYTES - self.taken - self.count() as u64;
@@ -123,15 +123,15 @@ impl Feed {
     pub(crate) fn refill<S: Source>(&mut self, input: &mut S) -> Result<(), CheckFault>
         requires open { self.old.ended ≡ false }
         requires room { self.old.taken + length (waiting self.old) < 2 ^ 40 }
-        ensures reads { OnOk result (Reads self.old self.new (S.given input.old)
-            (S.given input.new)) }
+        ensures reads { OnOk result (Reads self.old self.new (S.view input.old).given
+            (S.view input.new).given) }
         ensures more { OnOk result (HasMore self.old self.new) }
         ensures end { OnOk result (self.new.ended ≡ true →
-            Rose (S.ends input.old) (S.ends input.new)) }
-        ensures ends { S.ends input.old ≤ S.ends input.new }
-        ensures faults { S.faults input.old ≤ S.faults input.new }
+            Rose (S.view input.old).ends (S.view input.new).ends) }
+        ensures ends { (S.view input.old).ends ≤ (S.view input.new).ends }
+        ensures faults { (S.view input.old).faults ≤ (S.view input.new).faults }
         ensures cause { IsErrOf result CheckFault.Read →
-            Rose (S.faults input.old) (S.faults input.new) }
+            Rose (S.view input.old).faults (S.view input.new).faults }
     {
         let wanted = self.count() * 2 + 1;
         self.move_down();

@@ -8,11 +8,11 @@ use Rattle.grid_check.proofs.checking.open.Given as goal
 
 abbrev pub invariant-pieces : goal.invariant-pieces
 invariant-pieces g l = record {
-  gains : Gains (g.S.Source.given l.fn.input) (g.S.Source.given l.input) (waiting l.feed);
+  gains : Gains (g.S.Source.view l.fn.input).given (g.S.Source.view l.input).given (waiting l.feed);
   taken : l.feed.taken ≡ 0;
-  end : l.feed.ended ≡ true → Rose (g.S.Source.ends l.fn.input) (g.S.Source.ends l.input);
-  ends : g.S.Source.ends l.fn.input ≤ g.S.Source.ends l.input;
-  faults : g.S.Source.faults l.fn.input ≤ g.S.Source.faults l.input;
+  end : l.feed.ended ≡ true → Rose (g.S.Source.view l.fn.input).ends (g.S.Source.view l.input).ends;
+  ends : (g.S.Source.view l.fn.input).ends ≤ (g.S.Source.view l.input).ends;
+  faults : (g.S.Source.view l.fn.input).faults ≤ (g.S.Source.view l.input).faults;
 }
 
 abbrev pub decreases-pieces : goal.decreases-pieces

@@ -2,9 +2,10 @@ use Rattle.std.proofs.Common.{Some, refl}
 use Rattle.grid_types.specs.Calls.{Call, Reply}
 use Rattle.hub_core.specs.Replies.{binding_reply, failing_reply}
 use Rattle.hub_cell.specs.Passes.{knows}
+use Rattle.node_client.specs.ClockSteps.{ticked}
 use Rattle.node_client.specs.declared.wants.CarryAnswer.TheVariants as answers
-use Rattle.hub_workers.specs.WorldLaws.{ticked}
-use Rattle.hub_workers.proofs.TurnLemmas.{bind_wanted, call_turn, fail_wanted, free_wanted, good_bind, good_fail, good_freed, node_turn, spent_turn, told_bind, told_fail, told_free}
+use Rattle.node_client.specs.TurnLaws.{bind_wanted, fail_wanted, free_wanted, told_bind, told_fail, told_free}
+use Rattle.hub_workers.proofs.TurnLemmas.{call_turn, good_bind, good_fail, good_freed, node_turn, spent_turn}
 use Rattle.hub_workers.proofs.starting.turn.Goals as goal
 
 pub returns-in-Node-clause-turned : goal.returns-in-Node-clause-turned

@@ -5,8 +5,8 @@ use Rattle.hub_core.specs.Replies.{expiring_reply}
 use Rattle.hub_cell.specs.declared.hub.CellFault.{CellFault}
 use Rattle.hub_cell.specs.Passes.{IsFault, config_of, knows}
 use Rattle.hub_cell.specs.Shared.{SharedServes}
+use Rattle.node_client.specs.ClockSteps.{ticked}
 use Rattle.hub_workers.specs.Turns.{IdleSpent, expire_spent}
-use Rattle.hub_workers.specs.WorldLaws.{ticked}
 use Rattle.hub_workers.proofs.WorkLemmas.{looked_expired, looked_lacks, looked_over, one_spent}
 use Rattle.hub_workers.proofs.ticking.end_idle.Goals as goal
 

@@ -1,7 +1,7 @@
 use Rattle.std.proofs.Common.{subst}
 use Rattle.hub_cell.specs.Passes.{knows}
-use Rattle.hub_workers.specs.Turns.{AsksOnce}
-use Rattle.hub_workers.specs.WorldLaws.{ticked}
+use Rattle.node_client.specs.ClockSteps.{ticked}
+use Rattle.node_client.specs.Quitting.{AsksOnce}
 use Rattle.hub_workers.proofs.WorkLemmas.{finished_so, stopped_so}
 use Rattle.hub_workers.proofs.ticking.finish.Goals as goal
 

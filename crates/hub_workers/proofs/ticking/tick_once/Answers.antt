@@ -2,8 +2,8 @@ use Rattle.std.proofs.Common.{subst}
 use Rattle.grid_types.specs.Calls.{Call}
 use Rattle.hub_cell.specs.declared.hub.CellFault.{CellFault}
 use Rattle.hub_cell.specs.Passes.{IsFault, knows}
+use Rattle.node_client.specs.ClockSteps.{ticked}
 use Rattle.hub_workers.specs.Turns.{TickerSpent, sweep_spent}
-use Rattle.hub_workers.specs.WorldLaws.{ticked}
 use Rattle.hub_workers.proofs.WorkLemmas.{one_spent, swept_none, swept_turn}
 use Rattle.hub_workers.proofs.ticking.tick_once.Goals as goal
 

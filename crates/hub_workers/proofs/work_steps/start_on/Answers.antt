@@ -4,7 +4,8 @@ use Rattle.hub_core.specs.Replies.{binding_reply, failing_reply}
 use Rattle.hub_cell.specs.Passes.{knows}
 use Rattle.node_client.specs.declared.wants.CarryAnswer.TheVariants as answers
 use Rattle.hub_workers.specs.SharedClock.{SharedTells, not_asked}
-use Rattle.hub_workers.proofs.TurnLemmas.{bind_wanted, fail_wanted, free_wanted, good_bind, good_fail, good_freed, told_bind, told_fail, told_free}
+use Rattle.node_client.specs.TurnLaws.{bind_wanted, fail_wanted, free_wanted, told_bind, told_fail, told_free}
+use Rattle.hub_workers.proofs.TurnLemmas.{good_bind, good_fail, good_freed}
 use Rattle.hub_workers.proofs.WorkStageLemmas.{start_asks, start_calls, start_over, start_stops}
 use Rattle.hub_workers.proofs.work_steps.start_on.Goals as goal
 

@@ -4,8 +4,8 @@ use Rattle.hub_core.specs.declared.answers.Dispatched.{Dispatched}
 use Rattle.hub_core.specs.Replies.{dispatched_reply}
 use Rattle.hub_cell.specs.Passes.{config_of, knows}
 use Rattle.hub_cell.specs.Shared.{SharedServes}
+use Rattle.node_client.specs.ClockSteps.{ticked}
 use Rattle.hub_workers.specs.Turns.{WorkerSpent, dispatch_spent}
-use Rattle.hub_workers.specs.WorldLaws.{ticked}
 use Rattle.hub_workers.proofs.WorkLemmas.{assigned_spent, assigned_turn, lacking_turn, nothing_turn, one_spent}
 use Rattle.hub_workers.proofs.working.work_once.Goals as goal
 

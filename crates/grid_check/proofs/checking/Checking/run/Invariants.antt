@@ -4,9 +4,9 @@ use Rattle.grid_check.proofs.checking.Checking.run.Given as goal
 
 abbrev pub invariant-entries : goal.invariant-entries
 invariant-entries g l = record {
-  goes : (start : Told) → HasRead start (told (g.S.Source.given l.fn.input) (g.S.Source.ends l.fn.input)) l.fn.self → HasRead start (told (g.S.Source.given l.input) (g.S.Source.ends l.input)) l.self;
-  ends : g.S.Source.ends l.fn.input ≤ g.S.Source.ends l.input;
-  faults : g.S.Source.faults l.fn.input ≤ g.S.Source.faults l.input;
+  goes : (start : Told) → HasRead start (told (g.S.Source.view l.fn.input).given (g.S.Source.view l.fn.input).ends) l.fn.self → HasRead start (told (g.S.Source.view l.input).given (g.S.Source.view l.input).ends) l.self;
+  ends : (g.S.Source.view l.fn.input).ends ≤ (g.S.Source.view l.input).ends;
+  faults : (g.S.Source.view l.fn.input).faults ≤ (g.S.Source.view l.input).faults;
 }
 
 abbrev pub decreases-entries : goal.decreases-entries

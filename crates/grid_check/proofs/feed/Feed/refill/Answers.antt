@@ -1,5 +1,6 @@
 use Rattle.std.proofs.Common.{arith}
-use Rattle.grid_check.proofs.CheckLemmas.{reads_on, rose_later}
+use Rattle.grid_outside.specs.StreamLaws.{rose_later}
+use Rattle.grid_check.proofs.CheckLemmas.{reads_on}
 use Rattle.grid_check.proofs.feed.Feed.refill.Goals as goal
 
 pub pieces-preserved : goal.pieces-preserved

@@ -6,10 +6,10 @@ use Rattle.grid_check.proofs.feed.Feed.refill.Given as goal
 
 abbrev pub invariant-pieces : goal.invariant-pieces
 invariant-pieces g l = record {
-  reads : Reads l.fn.self l.self (g.S.Source.given l.fn.input) (g.S.Source.given l.input);
-  end : l.self.ended ≡ true → Rose (g.S.Source.ends l.fn.input) (g.S.Source.ends l.input);
-  ends : g.S.Source.ends l.fn.input ≤ g.S.Source.ends l.input;
-  faults : g.S.Source.faults l.fn.input ≤ g.S.Source.faults l.input;
+  reads : Reads l.fn.self l.self (g.S.Source.view l.fn.input).given (g.S.Source.view l.input).given;
+  end : l.self.ended ≡ true → Rose (g.S.Source.view l.fn.input).ends (g.S.Source.view l.input).ends;
+  ends : (g.S.Source.view l.fn.input).ends ≤ (g.S.Source.view l.input).ends;
+  faults : (g.S.Source.view l.fn.input).faults ≤ (g.S.Source.view l.input).faults;
 }
 
 abbrev pub decreases-pieces : goal.decreases-pieces

@@ -1,2 +1,0 @@
-mod WriteLemmas
-mod EndLemmas

@@ -1,3 +1,0 @@
-pub mod Writes
-pub mod Making
-pub mod Words
