@@ -1,3 +1,2 @@
-pub mod GainsLemmas
 pub mod ReadLemmas
 pub mod OneWayLemmas

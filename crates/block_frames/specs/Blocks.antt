@@ -1,8 +1,9 @@
 -- A block that was read, or what stands in its place.
 use Rattle.std.specs.Prelude.{◌≡◌, ◌≤◌, ◌<◌, ◌^◌, ℕ, List, [], ◌++◌, length}
 use Rattle.grid_outside.specs.Counts.{Rose}
+use Rattle.grid_outside.specs.Told.{SourceView}
 use Rattle.block_frames.specs.Frames.{frame, length_bytes}
-use Rattle.block_frames.specs.Inputs.{InputView, Reads}
+use Rattle.block_frames.specs.Inputs.{Reads}
 use Rattle.block_frames.specs.declared.reading.NextBlock.{NextBlock}
 use Rattle.block_frames.specs.declared.reading.NextBlock.TheVariants as next
 
@@ -12,7 +13,7 @@ pub data IsCut (most : ℕ) (rest : List ℕ) : Type 0 where
   in_block : (size : ℕ) (part : List ℕ) → size ≤ most → length part < size → rest ≡ length_bytes size ++ part → IsCut most rest
 
 -- Behind a length of that size: so many bytes; or fewer, where the input ended or no more may be read.
-abbrev pub ReadsBody : ℕ → NextBlock → (left fewer : ℕ) → InputView → InputView → Type 0
+abbrev pub ReadsBody : ℕ → NextBlock → (left fewer : ℕ) → SourceView → SourceView → Type 0
 ReadsBody size (next.Block bytes) left fewer old new = Reads bytes left fewer old new × (length bytes ≡ size)
 ReadsBody size next.Between left fewer old new = ⊥
 ReadsBody size next.Inside left fewer old new =
@@ -22,7 +23,7 @@ ReadsBody size next.AtLimit left fewer old new =
 ReadsBody size next.TooLong left fewer old new = ⊥
 
 -- the same, or that the size is more than the most
-abbrev pub ReadsSized : ℕ → ℕ → NextBlock → (left fewer : ℕ) → InputView → InputView → Type 0
+abbrev pub ReadsSized : ℕ → ℕ → NextBlock → (left fewer : ℕ) → SourceView → SourceView → Type 0
 ReadsSized most size (next.Block bytes) left fewer old new =
     Reads bytes left fewer old new × (length bytes ≡ size) × (size ≤ most)
 ReadsSized most size next.Between left fewer old new = ⊥
@@ -35,7 +36,7 @@ ReadsSized most size next.TooLong left fewer old new = Reads [] left fewer old n
 
 -- A block behind its length; or nothing, where the input ended; or a part of a block, where it ended or no more may be read; or a
 -- length that is more than the most.
-abbrev pub ReadsBlock : ℕ → NextBlock → (left fewer : ℕ) → InputView → InputView → Type 0
+abbrev pub ReadsBlock : ℕ → NextBlock → (left fewer : ℕ) → SourceView → SourceView → Type 0
 ReadsBlock most (next.Block bytes) left fewer old new = Reads (frame bytes) left fewer old new × (length bytes ≤ most)
 ReadsBlock most next.Between left fewer old new = Reads [] left fewer old new × Rose old.ends new.ends × (0 < fewer)
 ReadsBlock most next.Inside left fewer old new =

@@ -1,26 +1,17 @@
 -- What was read of an input.
-use Rattle.std.specs.Prelude.{◌≡◌, ◌≤◌, ◌<◌, ◌+◌, ℕ, List, ◌++◌, length, Option}
+use Rattle.std.specs.Prelude.{◌≡◌, ◌≤◌, ◌<◌, ◌+◌, ℕ, List, ◌++◌, length}
 use Rattle.grid_outside.specs.Counts.{Rose}
-use Rattle.grid_outside.specs.Told.{Gains}
+use Rattle.grid_outside.specs.Told.{Gains, SourceView}
 use Rattle.block_frames.specs.declared.parts.Part.{Part}
 use Rattle.block_frames.specs.declared.parts.Part.TheVariants as part
 
--- what an input tells: the bytes that it gave, where it tells them, and its counts
-pub record InputView : Type 0 where
-  pub given : Option (List ℕ)
-  pub ends : ℕ
-  pub faults : ℕ
-
-abbrev pub input_of : Option (List ℕ) → ℕ → ℕ → InputView
-input_of given ends faults = record { given = given; ends = ends; faults = faults }
-
 -- it gave some bytes
-pub record ReadsSome (old new : InputView) : Type 0 where
+pub record ReadsSome (old new : SourceView) : Type 0 where
   pub bytes : List ℕ
   pub given : Gains old.given new.given bytes
 
 -- a piece was read behind the bytes before: none at the end of the input
-pub record ReadsPiece (count room : ℕ) (before after : List ℕ) (old new : InputView) : Type 0 where
+pub record ReadsPiece (count room : ℕ) (before after : List ℕ) (old new : SourceView) : Type 0 where
   pub piece : List ℕ
   pub bytes_are : after ≡ before ++ piece
   pub size : length piece ≡ count
@@ -30,13 +21,13 @@ pub record ReadsPiece (count room : ℕ) (before after : List ℕ) (old new : In
   pub ends_later : old.ends ≤ new.ends
 
 -- these bytes were read, and so many fewer are left
-pub record Reads (bytes : List ℕ) (left fewer : ℕ) (old new : InputView) : Type 0 where
+pub record Reads (bytes : List ℕ) (left fewer : ℕ) (old new : SourceView) : Type 0 where
   pub given : Gains old.given new.given bytes
   pub count : left ≡ length bytes + fewer
   pub ends_later : old.ends ≤ new.ends
 
 -- as many bytes as were wanted, or fewer: the input ended, or none is left
-pub record ReadsPart (stop : Part) (wanted left fewer : ℕ) (bytes : List ℕ) (old new : InputView) : Type 0 where
+pub record ReadsPart (stop : Part) (wanted left fewer : ℕ) (bytes : List ℕ) (old new : SourceView) : Type 0 where
   pub reads : Reads bytes left fewer old new
   pub whole : stop ≡ part.Whole → length bytes ≡ wanted
   pub short : stop ≡ part.Ended → length bytes < wanted
@@ -46,7 +37,7 @@ pub record ReadsPart (stop : Part) (wanted left fewer : ℕ) (bytes : List ℕ) 
   pub none : stop ≡ part.AtLimit → fewer ≡ 0
 
 -- so far
-pub record ReadsOn (wanted left fewer : ℕ) (bytes : List ℕ) (old new : InputView) : Type 0 where
+pub record ReadsOn (wanted left fewer : ℕ) (bytes : List ℕ) (old new : SourceView) : Type 0 where
   pub reads : Reads bytes left fewer old new
   pub within : length bytes ≤ wanted
   pub faults_later : old.faults ≤ new.faults

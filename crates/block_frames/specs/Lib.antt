@@ -1,5 +1,4 @@
 pub mod Frames
 pub mod Inputs
 pub mod Blocks
-pub mod Outputs
 pub mod OneWay

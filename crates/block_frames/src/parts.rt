@@ -1,7 +1,7 @@
 //! A part of an input is read.
 ghost use Rattle.std.specs.Prelude.{◌≡◌, ◌≤◌, ◌<◌, [], ℕ, IfOk, IsErrOf, OnErr, length};
 ghost use Rattle.grid_outside.specs.Counts.{Rose};
-ghost use Rattle.block_frames.specs.Inputs.{ReadsPart, ReadsPiece, ReadsSome, input_of};
+ghost use Rattle.block_frames.specs.Inputs.{ReadsPart, ReadsPiece, ReadsSome};
 
 use grid_outside::Source;
 
@@ -54,13 +54,11 @@ fn read_piece<S: Source>(
     requires some { 0 < room }
     requires most { room ≤ 4_096 }
     ensures reads { IfOk result (λ count. ReadsPiece count room bytes.old.items bytes.new.items
-        (input_of (S.given input.old) (S.ends input.old) (S.faults input.old))
-        (input_of (S.given input.new) (S.ends input.new) (S.faults input.new))) }
-    ensures broken { OnErr result (ReadsSome
-        (input_of (S.given input.old) (S.ends input.old) (S.faults input.old))
-        (input_of (S.given input.new) (S.ends input.new) (S.faults input.new))) }
-    ensures cause { IsErrOf result ReadFault.Read → Rose (S.faults input.old) (S.faults input.new) }
-    ensures later { S.faults input.old ≤ S.faults input.new }
+        (S.view input.old) (S.view input.new)) }
+    ensures broken { OnErr result (ReadsSome (S.view input.old) (S.view input.new)) }
+    ensures cause { IsErrOf result ReadFault.Read → Rose (S.view input.old).faults
+        (S.view input.new).faults }
+    ensures later { (S.view input.old).faults ≤ (S.view input.new).faults }
 {
     let mut piece = [0; PIECE];
     match input.read(&mut piece[..room]) {
@@ -93,13 +91,11 @@ pub(crate) fn read_part<S: Source>(
 ) -> Result<Part, ReadFault>
     requires { bytes.old.items ≡ [] }
     ensures reads { IfOk result (λ part. ReadsPart part wanted left.old left.new bytes.new.items
-        (input_of (S.given input.old) (S.ends input.old) (S.faults input.old))
-        (input_of (S.given input.new) (S.ends input.new) (S.faults input.new))) }
-    ensures broken { OnErr result (ReadsSome
-        (input_of (S.given input.old) (S.ends input.old) (S.faults input.old))
-        (input_of (S.given input.new) (S.ends input.new) (S.faults input.new))) }
-    ensures cause { IsErrOf result ReadFault.Read → Rose (S.faults input.old) (S.faults input.new) }
-    ensures later { S.faults input.old ≤ S.faults input.new }
+        (S.view input.old) (S.view input.new)) }
+    ensures broken { OnErr result (ReadsSome (S.view input.old) (S.view input.new)) }
+    ensures cause { IsErrOf result ReadFault.Read → Rose (S.view input.old).faults
+        (S.view input.new).faults }
+    ensures later { (S.view input.old).faults ≤ (S.view input.new).faults }
 {
     'pieces: while bytes.len() < wanted && *left > 0 {
         let count = read_piece(input, room_for(wanted - bytes.len(), *left), bytes)?;

@@ -2,7 +2,7 @@
 ghost use Rattle.std.specs.Prelude.{◌≡◌, ◌≤◌, ◌<◌, ◌^◌, [], ℕ, length, IfOk, IfSome, IfNone, IsErrOf, OnErr};
 ghost use Rattle.grid_outside.specs.Counts.{Rose};
 ghost use Rattle.block_frames.specs.Frames.{length_bytes};
-ghost use Rattle.block_frames.specs.Inputs.{ReadsSome, input_of};
+ghost use Rattle.block_frames.specs.Inputs.{ReadsSome};
 ghost use Rattle.block_frames.specs.Blocks.{ReadsBlock, ReadsBody, ReadsSized};
 
 use crate::parts::{Part, ReadFault, read_part};
@@ -47,14 +47,12 @@ fn read_body<S: Source>(
     size: u32,
     left: &mut u64,
 ) -> Result<NextBlock, ReadFault>
-    ensures reads { IfOk result (λ next. ReadsBody size next left.old left.new
-        (input_of (S.given input.old) (S.ends input.old) (S.faults input.old))
-        (input_of (S.given input.new) (S.ends input.new) (S.faults input.new))) }
-    ensures broken { OnErr result (ReadsSome
-        (input_of (S.given input.old) (S.ends input.old) (S.faults input.old))
-        (input_of (S.given input.new) (S.ends input.new) (S.faults input.new))) }
-    ensures cause { IsErrOf result ReadFault.Read → Rose (S.faults input.old) (S.faults input.new) }
-    ensures later { S.faults input.old ≤ S.faults input.new }
+    ensures reads { IfOk result (λ next. ReadsBody size next left.old left.new (S.view input.old)
+        (S.view input.new)) }
+    ensures broken { OnErr result (ReadsSome (S.view input.old) (S.view input.new)) }
+    ensures cause { IsErrOf result ReadFault.Read → Rose (S.view input.old).faults
+        (S.view input.new).faults }
+    ensures later { (S.view input.old).faults ≤ (S.view input.new).faults }
 {
     let mut bytes = Vec::new(alloc);
     match read_part(input, size as usize, left, &mut bytes) {
@@ -74,13 +72,11 @@ fn read_sized<S: Source>(
     left: &mut u64,
 ) -> Result<NextBlock, ReadFault>
     ensures reads { IfOk result (λ next. ReadsSized most size next left.old left.new
-        (input_of (S.given input.old) (S.ends input.old) (S.faults input.old))
-        (input_of (S.given input.new) (S.ends input.new) (S.faults input.new))) }
-    ensures broken { OnErr result (ReadsSome
-        (input_of (S.given input.old) (S.ends input.old) (S.faults input.old))
-        (input_of (S.given input.new) (S.ends input.new) (S.faults input.new))) }
-    ensures cause { IsErrOf result ReadFault.Read → Rose (S.faults input.old) (S.faults input.new) }
-    ensures later { S.faults input.old ≤ S.faults input.new }
+        (S.view input.old) (S.view input.new)) }
+    ensures broken { OnErr result (ReadsSome (S.view input.old) (S.view input.new)) }
+    ensures cause { IsErrOf result ReadFault.Read → Rose (S.view input.old).faults
+        (S.view input.new).faults }
+    ensures later { (S.view input.old).faults ≤ (S.view input.new).faults }
 {
     if size > most {
         return Ok(NextBlock::TooLong);
@@ -108,14 +104,12 @@ pub fn read_block<S: Source>(
     left: &mut u64,
 ) -> Result<NextBlock, ReadFault>
     requires { 0 < left.old }
-    ensures reads { IfOk result (λ next. ReadsBlock most next left.old left.new
-        (input_of (S.given input.old) (S.ends input.old) (S.faults input.old))
-        (input_of (S.given input.new) (S.ends input.new) (S.faults input.new))) }
-    ensures broken { OnErr result (ReadsSome
-        (input_of (S.given input.old) (S.ends input.old) (S.faults input.old))
-        (input_of (S.given input.new) (S.ends input.new) (S.faults input.new))) }
-    ensures cause { IsErrOf result ReadFault.Read → Rose (S.faults input.old) (S.faults input.new) }
-    ensures later { S.faults input.old ≤ S.faults input.new }
+    ensures reads { IfOk result (λ next. ReadsBlock most next left.old left.new (S.view input.old)
+        (S.view input.new)) }
+    ensures broken { OnErr result (ReadsSome (S.view input.old) (S.view input.new)) }
+    ensures cause { IsErrOf result ReadFault.Read → Rose (S.view input.old).faults
+        (S.view input.new).faults }
+    ensures later { (S.view input.old).faults ≤ (S.view input.new).faults }
 {
     let mut bytes = Vec::new(alloc);
     match read_part(input, LENGTH_BYTES, left, &mut bytes) {

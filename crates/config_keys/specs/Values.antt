@@ -1,10 +1,10 @@
 -- What may stand for a key, and how it is written as a word.
-use Rattle.std.specs.Prelude.{◌&&◌, ◌||◌, ◌==◌, ℕ, ℤ, pos, negsuc, Bool, true, false, not, nat_le}
+use Rattle.std.specs.Prelude.{◌&&◌, ◌==◌, ℕ, ℤ, pos, negsuc, Bool, true, false, not, nat_le}
 use Rattle.std.specs.Prelude.{List, [], ◌∷◌, length, is_some, Option, None, Some, codes, decimal, option_and_then, option_map}
 use Rattle.std.specs.Prelude.{if◌then◌else◌}
-use Rattle.std.specs.Char.{is_ascii_alphanumeric}
 use Rattle.std.specs.List.{list_all}
 use Rattle.toml.specs.Data.{Data, as_bool, as_integer, as_str}
+use Rattle.grid_types.specs.Names.{is_node_name_byte}
 use Rattle.server_words.specs.Addresses.{bare_address, is_reachable}
 use Rattle.server_words.specs.OwnCapabilities.{own_cap}
 use Rattle.config_keys.specs.declared.rows.Form.{Form}
@@ -26,13 +26,9 @@ is_name text =
     nat_le 1 (length text) && nat_le (length text) 64 && list_all is_plain text
     && not (begins_with_dash text)
 
--- a letter, a digit, `-`, `_` or `.`
-abbrev pub is_label_byte : ℕ → Bool
-is_label_byte b = is_ascii_alphanumeric b || b == 45 || b == 95 || b == 46
-
--- a name of such bytes
+-- a name of the bytes of a node's name
 abbrev pub is_label : List ℕ → Bool
-is_label text = is_name text && list_all is_label_byte text
+is_label text = is_name text && list_all is_node_name_byte text
 
 -- an address as the program takes it, which begins with no `-`
 abbrev pub is_address : List ℕ → Bool

@@ -2,10 +2,10 @@
 ghost use Rattle.std.specs.Prelude.{◌≡◌, IfOk, option_map, decimal, Some};
 ghost use Rattle.std.specs.List.{list_all};
 ghost use Rattle.toml.specs.View.{view};
-ghost use Rattle.config_keys.specs.Values.{begins_with_dash, has_form, is_address, is_capability, is_label, is_label_byte, is_name, is_plain, number_within, text_of, truth, word_for};
+ghost use Rattle.config_keys.specs.Values.{begins_with_dash, has_form, is_address, is_capability, is_label, is_name, is_plain, number_within, text_of, truth, word_for};
 
 use crate::rows::{Form, Kind};
-use grid_types::{NoMemory, Text};
+use grid_types::{NoMemory, Text, are_node_name_bytes};
 use server_words::{address_in, names_capability};
 use std::alloc::Global;
 use toml::Value;
@@ -34,16 +34,10 @@ fn is_name(text: &[u8]) -> bool
     text.len() >= 1 && text.len() <= MOST_NAME_BYTES && are_plain(text) && !begins_with_dash(text)
 }
 
-fn are_label_bytes(text: &[u8]) -> bool
-    ensures { result ≡ list_all is_label_byte text.now }
-{
-    text.iter().all(|b| b.is_ascii_alphanumeric() || *b == b'-' || *b == b'_' || *b == b'.')
-}
-
 fn is_label(text: &[u8]) -> bool
     ensures { result ≡ is_label text.now }
 {
-    is_name(text) && are_label_bytes(text)
+    is_name(text) && are_node_name_bytes(text)
 }
 
 fn is_address(text: &str) -> bool

@@ -46,7 +46,7 @@ abbrev pub fault_in : List Row → Members → Option ConfigFault
 fault_in rows no_members = None
 fault_in rows (member section d members) = first (section_fault rows section d) (fault_in rows members)
 
--- the fault is that one, or want of memory
+-- the fault is that one, or out of memory
 abbrev pub IsFault : ConfigFault → Option ConfigFault → Type 0
 IsFault fault.Memory found = Unit {0}
 IsFault fault.TooLong found = ⊥

@@ -25,8 +25,8 @@ use crate::wants::HubCall;
 use caps_merge::{
     CapsFault, RegFault, beat_name, process, registration, registrations_are_well_sized,
 };
-use grid_types::{Bytes, NodeNo, SessionId, Text};
-use router_core::{RouteFault, Routed, Router, node_number};
+use grid_types::{Bytes, NodeNo, SessionId, Text, node_number};
+use router_core::{RouteFault, Routed, Router};
 use std::alloc::Global;
 
 /// The first turn of the request under way, whose route the table of paths tells.

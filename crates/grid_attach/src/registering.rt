@@ -72,11 +72,10 @@ pub(crate) fn node(
         Ok(()) => {}
         Err(_) => return Err(NoMemory),
     }
-    Ok(Registration {
-        name: Text::of(alloc, said.name.as_str())?,
-        address: said.driver,
-        max_sessions: said.slots,
+    Ok(Registration::new(
+        Text::of(alloc, said.name.as_str())?,
+        said.driver,
+        said.slots,
         groups,
-        drain_after: None,
-    })
+    ))
 }

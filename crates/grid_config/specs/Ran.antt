@@ -5,7 +5,8 @@ use Rattle.config_keys.specs.Rows.{Row}
 use Rattle.config_keys.specs.declared.fault.ConfigFault.{ConfigFault}
 use Rattle.config_keys.specs.declared.fault.ConfigFault.TheVariants as fault
 use Rattle.grid_outside.specs.Counts.{Rose}
-use Rattle.grid_config.specs.Input.{HasRead, InputView}
+use Rattle.grid_outside.specs.Told.{SourceView}
+use Rattle.grid_config.specs.Input.{HasRead}
 
 -- the status of a text that says no words
 abbrev pub fault_status : ConfigFault → ℕ
@@ -23,7 +24,7 @@ Ends MayEnd status Untouched (Ok words) = MayEnd words
 Ends MayEnd status Untouched (Err f) = (status ≡ fault_status f) × Untouched
 
 -- a text was read, and the program ended by what it says by the table of keys
-pub record RanBy (rows : List Row) (old new : InputView)
+pub record RanBy (rows : List Row) (old new : SourceView)
     (Ended : Result (List (List ℕ)) ConfigFault → Type 0) : Type 0 where
   pub bytes : List ℕ
   pub said : Result (List (List ℕ)) ConfigFault
@@ -32,7 +33,7 @@ pub record RanBy (rows : List Row) (old new : InputView)
   pub ended : Ended said
 
 -- or none was read: a read failed, or there was no memory; and nothing but the input was touched
-abbrev pub Ran : List Row → (List (List ℕ) → Type 0) → ℕ → Type 0 → InputView → InputView → Type 0
+abbrev pub Ran : List Row → (List (List ℕ) → Type 0) → ℕ → Type 0 → SourceView → SourceView → Type 0
 Ran rows MayEnd status Untouched old new =
     RanBy rows old new (Ends MayEnd status Untouched)
     ⊎ (((status ≡ 10) × Rose old.faults new.faults × Untouched)

@@ -5,7 +5,6 @@ ghost use Rattle.config_keys.specs.Rows.{attach_rows};
 ghost use Rattle.config_keys.specs.declared.fault.ConfigFault.{ConfigFault};
 ghost use Rattle.grid_outside.specs.Counts.{Rose};
 ghost use Rattle.grid_config.specs.Driver.{HasLooked, MayAttach, refusal_status};
-ghost use Rattle.grid_config.specs.Input.{input_of};
 ghost use Rattle.grid_config.specs.Ran.{Ends, Ran};
 
 use crate::input::{InputFault, read_text};
@@ -91,9 +90,7 @@ pub fn attach_config_main<S: Source, N: NodeLink, C: Clock>(
         (λ words. MayAttach words result
         (HasLooked N.gives C.gives C.view words looks nodes.old clock.old nodes.new clock.new)
         (nodes.new ≡ nodes.old))
-        result (nodes.new ≡ nodes.old)
-        (input_of (S.given input.old) (S.ends input.old) (S.faults input.old))
-        (input_of (S.given input.new) (S.ends input.new) (S.faults input.new)) }
+        result (nodes.new ≡ nodes.old) (S.view input.old) (S.view input.new) }
 {
     match read_text(alloc, input) {
         Ok(text) => run_text(alloc, text.as_slice(), nodes, clock, looks),

@@ -45,11 +45,7 @@ impl<S: Source + Drop> KeptInput<S> {
 }
 
 impl<S: Source + Drop> Source for KeptInput<S> {
-    ghost faults = { λ k. S.faults k.input };
-
-    ghost ends = { λ k. S.ends k.input };
-
-    ghost given = { λ k. S.given k.input };
+    ghost view = { λ k. S.view k.input };
 
     fn read(&mut self, into: &mut [u8]) -> Result<usize, Failed> {
         let came = self.input.read(into);

@@ -5,7 +5,6 @@ ghost use Rattle.config_keys.specs.Rows.{rows_of};
 ghost use Rattle.config_keys.specs.declared.fault.ConfigFault.{ConfigFault};
 ghost use Rattle.config_keys.specs.declared.rows.Mode.{Mode};
 ghost use Rattle.grid_outside.specs.Counts.{Rose};
-ghost use Rattle.grid_config.specs.Input.{input_of};
 ghost use Rattle.grid_config.specs.Ran.{Ends, Ran};
 ghost use Rattle.grid_config.specs.Servers.{IsNamed, MayServe, NameOne};
 
@@ -81,9 +80,7 @@ fn run_input<R: Threads + Wait + Sync, S: Source, D: Door>(
 ) -> u8
     ensures { Ran (rows_of mode)
         (λ words. MayServe mode words result (D.view door.old) (D.view door.new))
-        result (door.new ≡ door.old)
-        (input_of (S.given input.old) (S.ends input.old) (S.faults input.old))
-        (input_of (S.given input.new) (S.ends input.new) (S.faults input.new)) }
+        result (door.new ≡ door.old) (S.view input.old) (S.view input.new) }
 {
     match read_text(alloc, input) {
         Ok(text) => run_text(rt, alloc, mode, text.as_slice(), door),
@@ -110,9 +107,7 @@ pub fn config_main<R: Threads + Wait + Sync, S: Source, D: Door>(
     ensures untouched { result ≡ 8 → (input.new ≡ input.old) × (door.new ≡ door.old) }
     ensures ran { (m : Mode) → IsNamed words.now m → Ran (rows_of m)
         (λ said. MayServe m said result (D.view door.old) (D.view door.new))
-        result (door.new ≡ door.old)
-        (input_of (S.given input.old) (S.ends input.old) (S.faults input.old))
-        (input_of (S.given input.new) (S.ends input.new) (S.faults input.new)) }
+        result (door.new ≡ door.old) (S.view input.old) (S.view input.new) }
 {
     match named(words) {
         Some(mode) => run_input(rt, alloc, mode, input, door),

@@ -1,1 +1,2 @@
 mod AwaitedLemmas
+mod StreamLemmas

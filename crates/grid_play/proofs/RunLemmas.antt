@@ -4,7 +4,7 @@ use Rattle.std.proofs.lemmas.Bool.{and_parts}
 use Rattle.std.proofs.lemmas.Fmt.{decimal_injective}
 use Rattle.std.specs.Prelude.{Option, None, Some, Result, Ok, Err, nat_le, codes, decimal}
 use Rattle.grid_outside.specs.Counts.{Rose}
-use Rattle.grid_outside.specs.Told.{LinkView}
+use Rattle.grid_outside.specs.Told.{LinkView, SinkView}
 use Rattle.grid_types.specs.declared.config.HubConfig.{HubConfig}
 use Rattle.grid_types.specs.Config.{IsValid}
 use Rattle.conn_script.specs.declared.wants.ConnFault.{ConnFault}
@@ -12,7 +12,8 @@ use Rattle.conn_script.specs.declared.wants.ConnFault.TheVariants as faults
 use Rattle.conn_script.specs.declared.wants.End.{End}
 use Rattle.conn_script.specs.declared.wants.End.TheVariants as ends
 use Rattle.conn_script.specs.declared.wants.Served.{Served}
-use Rattle.local_driver.specs.Served.{Blames}
+use Rattle.hub_conn.specs.Talk.{result_cause}
+use Rattle.hub_links.specs.Links.{RoseFor}
 use Rattle.loop_node.specs.Sizes.{short_texts}
 use Rattle.play_words.specs.declared.play.PlayNode.{PlayNode}
 use Rattle.play_words.specs.Node.{is_browser, begins_with_letter, SaysVersion}
@@ -144,13 +145,13 @@ not_so e b n some few is = by_class (end_class e b)
     by_class (inr (inl d)) = omega (arith, is, d, few)
     by_class (inr (inr d)) = omega (arith, is, d, few)
 
-pub read_told : (r : Result Served ConnFault) (l m : LinkView) → status_of r ≡ 3 → Blames r l m → Rose l.read_faults m.read_faults
+pub read_told : (r : Result Served ConnFault) (l m : LinkView) → status_of r ≡ 3 → RoseFor (result_cause r) l m → Rose l.read_faults m.read_faults
 read_told (Ok served) l m e blames = absurd (not_so served.end served.short 3 (omega arith) (omega arith) e)
 read_told (Err faults.Read) l m e blames = blames
 read_told (Err faults.Write) l m e blames = absurd (omega (arith, e))
 read_told (Err faults.Memory) l m e blames = absurd (omega (arith, e))
 
-pub write_told : (r : Result Served ConnFault) (l m : LinkView) → status_of r ≡ 4 → Blames r l m → Rose l.write_faults m.write_faults
+pub write_told : (r : Result Served ConnFault) (l m : LinkView) → status_of r ≡ 4 → RoseFor (result_cause r) l m → Rose l.write_faults m.write_faults
 write_told (Ok served) l m e blames = absurd (not_so served.end served.short 4 (omega arith) (omega arith) e)
 write_told (Err faults.Read) l m e blames = absurd (omega (arith, e))
 write_told (Err faults.Write) l m e blames = blames
@@ -191,8 +192,8 @@ sum_any_status n (inl e) = inl e
 sum_any_status n (inr (inl e)) = inr (omega (arith, e), omega (arith, e))
 sum_any_status n (inr (inr e)) = inr (omega (arith, e), omega (arith, e))
 
-pub summed_of : (number n status : ℕ) (taken taken' : Option (List ℕ)) (faults faults' : ℕ) → number ≡ n → IsSumStatus status → (status ≡ 0 → WroteAll number taken taken') →
-    (status ≡ 4 → BrokeOff number taken taken') → (status ≡ 4 → Rose faults faults') → (status ≡ 5 → taken' ≡ taken) → Summed n status taken taken' faults faults'
-summed_of number n status taken taken' faults faults' same is whole broken cause nothing =
-    subst (λ (k : ℕ). Summed k status taken taken' faults faults') same
+pub summed_of : (number n status : ℕ) (old new : SinkView) → number ≡ n → IsSumStatus status → (status ≡ 0 → WroteAll number old.taken new.taken) →
+    (status ≡ 4 → BrokeOff number old.taken new.taken) → (status ≡ 4 → Rose old.faults new.faults) → (status ≡ 5 → new.taken ≡ old.taken) → Summed n status old new
+summed_of number n status old new same is whole broken cause nothing =
+    subst (λ (k : ℕ). Summed k status old new) same
     (record { statuses = is; whole = whole; broken = λ e. (broken e, cause e); nothing = nothing })

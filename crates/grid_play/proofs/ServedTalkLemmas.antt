@@ -9,7 +9,9 @@ use Rattle.grid_types.specs.Legal.{legal}
 use Rattle.hub_core.specs.HubView.{HubView, past}
 use Rattle.conn_script.specs.declared.wants.ConnFault.{ConnFault}
 use Rattle.conn_script.specs.declared.wants.Served.{Served}
-use Rattle.local_driver.specs.Served.{Blames, ServedLocally, outside_of}
+use Rattle.hub_conn.specs.Talk.{result_cause}
+use Rattle.hub_links.specs.Links.{RoseFor}
+use Rattle.local_driver.specs.Served.{ServedLocally, outside_of}
 use Rattle.local_driver.specs.World.{world_of}
 use Rattle.loop_node.specs.declared.links.LoopNodes.{LoopNodes}
 use Rattle.grid_play.specs.Ran.{status_of}
@@ -43,7 +45,7 @@ served_talk own ended h k n m t u before after locally =
     kept : k.config ≡ h.config → legal k.config (past k) ≡ true → legal h.config (past k) ≡ true
     kept e l = subst (λ (c : HubConfig). legal c (past k) ≡ true) e l
 
-pub tells_status : (ended : Result Served ConnFault) (before after : LinkView) → Blames ended before after → TellsStatus (status_of ended) before after
+pub tells_status : (ended : Result Served ConnFault) (before after : LinkView) → RoseFor (result_cause ended) before after → TellsStatus (status_of ended) before after
 tells_status ended before after blames = record {
   read = λ e. read_told ended before after e blames;
   write = λ e. write_told ended before after e blames;

@@ -1,16 +1,16 @@
 -- What each status of `run` means.
-use Rattle.std.specs.Prelude.{◌≡◌, ◌≢◌, ◌⊎◌, ℕ, ◌<◌, ◌^◌, Bool, true, false, List, Option, Result, Ok, Err, IfOk}
+use Rattle.std.specs.Prelude.{◌≡◌, ◌≢◌, ◌⊎◌, ℕ, ◌<◌, ◌^◌, Bool, true, false, List, Result, Ok, Err, IfOk}
 use Rattle.grid_types.specs.declared.config.HubConfig.{HubConfig}
 use Rattle.grid_outside.specs.Counts.{Rose}
-use Rattle.grid_outside.specs.Told.{LinkView}
+use Rattle.grid_outside.specs.Told.{LinkView, SinkView}
 use Rattle.node_client.specs.Steps.{Step}
 use Rattle.conn_script.specs.declared.wants.ConnFault.{ConnFault}
 use Rattle.conn_script.specs.declared.wants.ConnFault.TheVariants as faults
 use Rattle.conn_script.specs.declared.wants.End.{End}
 use Rattle.conn_script.specs.declared.wants.End.TheVariants as ends
 use Rattle.conn_script.specs.declared.wants.Served.{Served}
-use Rattle.hub_links.specs.Links.{Moved}
-use Rattle.local_driver.specs.Served.{Blames}
+use Rattle.hub_links.specs.Links.{Moved, RoseFor}
+use Rattle.hub_conn.specs.Talk.{result_cause}
 use Rattle.grid_simulate.specs.Writing.{WroteAll, BrokeOff}
 use Rattle.play_words.specs.declared.play.PlayNode.{PlayNode}
 use Rattle.play_words.specs.Words.{Plays, IsSimulate}
@@ -62,7 +62,7 @@ pub record ServedSo (c : HubConfig) (nodes : List PlayNode) (ended : Result Serv
   pub written : List ℕ
   pub played : Played c nodes ended bytes steps written
   pub moved : Moved old bytes written new
-  pub blames : Blames ended old new
+  pub blames : RoseFor (result_cause ended) old new
   pub unspent : IsUnspent ended
 
 -- a connection was served, and its end tells the status
@@ -78,8 +78,8 @@ Ran c nodes status old new = RanTo c nodes status old new ⊎ ((status ≡ 5) ×
 -- ---- a simulation
 
 -- 0, the whole summary was written; 4, a write failed behind a front of it; 5, there was no memory, and nothing was written
-pub record Summed (number status : ℕ) (taken taken' : Option (List ℕ)) (faults faults' : ℕ) : Type 0 where
+pub record Summed (number status : ℕ) (old new : SinkView) : Type 0 where
   pub statuses : (status ≡ 0) ⊎ ((status ≡ 4) ⊎ (status ≡ 5))
-  pub whole : status ≡ 0 → WroteAll number taken taken'
-  pub broken : status ≡ 4 → BrokeOff number taken taken' × Rose faults faults'
-  pub nothing : status ≡ 5 → taken' ≡ taken
+  pub whole : status ≡ 0 → WroteAll number old.taken new.taken
+  pub broken : status ≡ 4 → BrokeOff number old.taken new.taken × Rose old.faults new.faults
+  pub nothing : status ≡ 5 → new.taken ≡ old.taken

@@ -10,11 +10,12 @@ use Rattle.grid_outside.specs.declared.exchange.Ask.{Ask}
 use Rattle.grid_outside.specs.declared.memory.MemClock.{MemClock}
 use Rattle.grid_outside.specs.Exchanges.{Came}
 use Rattle.hub_core.specs.HubView.{HubView, past}
-use Rattle.hub_links.specs.Links.{Moved}
+use Rattle.hub_conn.specs.Talk.{result_cause}
+use Rattle.hub_links.specs.Links.{Moved, RoseFor}
 use Rattle.node_client.specs.Steps.{Step}
 use Rattle.conn_script.specs.declared.wants.ConnFault.{ConnFault}
 use Rattle.conn_script.specs.declared.wants.Served.{Served}
-use Rattle.local_driver.specs.Served.{Blames, ServedLocally, outside_of}
+use Rattle.local_driver.specs.Served.{ServedLocally, outside_of}
 use Rattle.local_driver.specs.World.{world_of}
 use Rattle.loop_node.specs.declared.links.LoopNodes.{LoopNodes}
 use Rattle.loop_node.specs.LinkedNodes.{nodes_reached}
@@ -38,7 +39,7 @@ pub record ServedTalk (c : HubConfig) (own : List ℕ) (old : Standing) (ended :
   pub talks : Talks c own old ended bytes steps written new
   pub is_legal : legal c new.history ≡ true
   pub moved : Moved before bytes written after
-  pub blames : Blames ended before after
+  pub blames : RoseFor (result_cause ended) before after
   pub unspent : IsUnspent ended
 
 -- what was served is such a conversation
@@ -55,4 +56,4 @@ pub record TellsStatus (status : ℕ) (before after : LinkView) : Type 0 where
   pub few : (status ≡ 0) ⊎ ((2 < status) × (status < 7))
 
 abbrev pub StatusesTell : Type 0
-StatusesTell = (ended : Result Served ConnFault) (before after : LinkView) → Blames ended before after → TellsStatus (status_of ended) before after
+StatusesTell = (ended : Result Served ConnFault) (before after : LinkView) → RoseFor (result_cause ended) before after → TellsStatus (status_of ended) before after

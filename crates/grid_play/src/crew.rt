@@ -82,13 +82,12 @@ pub fn registration_of(alloc: Global, i: NodeNo, node: &PlayNode) -> Result<Regi
     let Ok(()) = groups.push(group) else {
         return Err(NoMemory);
     };
-    Ok(Registration {
-        name: name_of(alloc, i)?,
-        address: address_of(alloc, i)?,
-        max_sessions: node.slots,
+    Ok(Registration::new(
+        name_of(alloc, i)?,
+        address_of(alloc, i)?,
+        node.slots,
         groups,
-        drain_after: None,
-    })
+    ))
 }
 
 /// The node in memory that stands behind it.
@@ -100,7 +99,7 @@ fn loop_node_of(alloc: Global, i: NodeNo, node: &PlayNode) -> Result<LoopNode, N
     Ok(LoopNode::new(alloc, i, browser, version, node.slots, node.refuses))
 }
 
-/// Registers a node at the moment 0. Err is want of memory.
+/// Registers a node at the moment 0. Err is out of memory.
 fn register(hub: &mut LocalHub, registration: Registration) -> Result<(), NoMemory>
     requires { is_well_sized registration ≡ true }
     ensures config { hub.new.config ≡ hub.old.config }

@@ -14,7 +14,7 @@ impl<S: Source, K: Sink> Link for Joined<'_, S, K> {
     ghost use Rattle.std.proofs.Common.{refl, ◌∙◌};
     ghost use Rattle.grid_play.specs.BothEnds.{link_of};
 
-    ghost view = { λ l. link_of (S.given l.source.now) (K.taken l.sink.now) (S.faults l.source.now) (K.faults l.sink.now) (S.ends l.source.now) };
+    ghost view = { λ l. link_of (S.view l.source.now) (K.view l.sink.now) };
 
     ghost Same = { λ x y. (y.source.ghost_name ≡ x.source.ghost_name) × (y.sink.ghost_name ≡ x.sink.ghost_name) };
 

@@ -37,7 +37,7 @@ const NO_MEMORY: u8 = 5;
 const AT_LIMIT: u8 = 6;
 
 /// Serves the one connection, by a hub in which the nodes have registered at the moment 0, over a clock that stands still but for
-/// pauses. Err is want of memory for hub and nodes: nothing was read or written.
+/// pauses. Err is out of memory for hub and nodes: nothing was read or written.
 fn play<S: Source, K: Sink>(
     alloc: Global,
     config: HubConfig,
@@ -49,8 +49,8 @@ fn play<S: Source, K: Sink>(
     requires fit { AllFit played.now }
     requires few { length played.now < 2 ^ 16 }
     ensures served { IfOk result (λ ended. ServedSo config played.now ended
-        (link_of (S.given input.old) (K.taken output.old) (S.faults input.old) (K.faults output.old) (S.ends input.old))
-        (link_of (S.given input.new) (K.taken output.new) (S.faults input.new) (K.faults output.new) (S.ends input.new))) }
+        (link_of (S.view input.old) (K.view output.old))
+        (link_of (S.view input.new) (K.view output.new))) }
     ensures unmade { OnErr result ((input.new ≡ input.old) × (output.new ≡ output.old)) }
 {
     let mut crew = crew_of(alloc, config, played)?;
@@ -104,10 +104,10 @@ fn play_to_end<S: Source, K: Sink>(
     requires fit { AllFit played.now }
     requires few { length played.now < 2 ^ 16 }
     ensures ran { Ran config played.now result
-        (link_of (S.given input.old) (K.taken output.old) (S.faults input.old) (K.faults output.old) (S.ends input.old))
-        (link_of (S.given input.new) (K.taken output.new) (S.faults input.new) (K.faults output.new) (S.ends input.new)) }
-    ensures read { result ≡ 3 → Rose (S.faults input.old) (S.faults input.new) }
-    ensures write { result ≡ 4 → Rose (K.faults output.old) (K.faults output.new) }
+        (link_of (S.view input.old) (K.view output.old))
+        (link_of (S.view input.new) (K.view output.new)) }
+    ensures read { result ≡ 3 → Rose (S.view input.old).faults (S.view input.new).faults }
+    ensures write { result ≡ 4 → Rose (K.view output.old).faults (K.view output.new).faults }
     ensures statuses { (result ≡ 0) ⊎ ((2 < result) × (result < 7)) }
 {
     match play(alloc, config, played, input, output) {
@@ -120,11 +120,12 @@ fn play_to_end<S: Source, K: Sink>(
 fn run_play<S: Source, K: Sink>(alloc: Global, words: &[Text], input: &mut S, output: &mut K) -> u8
     ensures words { (result ≡ 2) ↔ ¬ (FitPlay words.now) }
     ensures untouched { result ≡ 2 → (input.new ≡ input.old) × (output.new ≡ output.old) }
-    ensures ran { (config : HubConfig) (nodes : List PlayNode) → Plays words.now config nodes → Ran config nodes result
-        (link_of (S.given input.old) (K.taken output.old) (S.faults input.old) (K.faults output.old) (S.ends input.old))
-        (link_of (S.given input.new) (K.taken output.new) (S.faults input.new) (K.faults output.new) (S.ends input.new)) }
-    ensures read { result ≡ 3 → Rose (S.faults input.old) (S.faults input.new) }
-    ensures write { result ≡ 4 → Rose (K.faults output.old) (K.faults output.new) }
+    ensures ran { (config : HubConfig) (nodes : List PlayNode) → Plays words.now config nodes → Ran
+        config nodes result
+        (link_of (S.view input.old) (K.view output.old))
+        (link_of (S.view input.new) (K.view output.new)) }
+    ensures read { result ≡ 3 → Rose (S.view input.old).faults (S.view input.new).faults }
+    ensures write { result ≡ 4 → Rose (K.view output.old).faults (K.view output.new).faults }
     ensures statuses { (result ≡ 0) ⊎ ((2 ≤ result) × (result < 7)) }
 {
     words_say_one_play();
@@ -147,15 +148,16 @@ fn run_play<S: Source, K: Sink>(alloc: Global, words: &[Text], input: &mut S, ou
 pub fn run<S: Source, K: Sink>(alloc: Global, words: &[Text], input: &mut S, output: &mut K) -> u8
     ensures words { (result ≡ 2) ↔ ¬ (Fit words.now) }
     ensures untouched { result ≡ 2 → (input.new ≡ input.old) × (output.new ≡ output.old) }
-    ensures ran { (config : HubConfig) (nodes : List PlayNode) → Plays words.now config nodes → Ran config nodes result
-        (link_of (S.given input.old) (K.taken output.old) (S.faults input.old) (K.faults output.old) (S.ends input.old))
-        (link_of (S.given input.new) (K.taken output.new) (S.faults input.new) (K.faults output.new) (S.ends input.new)) }
+    ensures ran { (config : HubConfig) (nodes : List PlayNode) → Plays words.now config nodes → Ran
+        config nodes result
+        (link_of (S.view input.old) (K.view output.old))
+        (link_of (S.view input.new) (K.view output.new)) }
     ensures summed { (number : ℕ) → number < 2 ^ 64 → IsSimulate words.now number →
-        Summed number result (K.taken output.old) (K.taken output.new) (K.faults output.old) (K.faults output.new) }
+        Summed number result (K.view output.old) (K.view output.new) }
     ensures unread { (number : ℕ) → number < 2 ^ 64 → IsSimulate words.now number →
         input.new ≡ input.old }
-    ensures read { result ≡ 3 → Rose (S.faults input.old) (S.faults input.new) }
-    ensures write { result ≡ 4 → Rose (K.faults output.old) (K.faults output.new) }
+    ensures read { result ≡ 3 → Rose (S.view input.old).faults (S.view input.new).faults }
+    ensures write { result ≡ 4 → Rose (K.view output.old).faults (K.view output.new).faults }
     ensures statuses { (result ≡ 0) ⊎ ((2 ≤ result) × (result < 7)) }
 {
     match read_simulate(words) {

@@ -12,9 +12,10 @@ use Rattle.grid_types.specs.OneMoreEntry.{NumberedOneByOne}
 use Rattle.grid_types.specs.Slots.{slot_eq}
 use Rattle.grid_types.specs.Tokens.{Ticket, Reservation, Closing, ticket_of, reservation_of, is_good_ticket, is_good_reservation, is_good_closing}
 use Rattle.grid_types.specs.Calls.{Call, Reply}
+use Rattle.grid_types.specs.HandedIn.{hands_ticket, hands_reservation}
 use Rattle.grid_types.specs.HubAnswers.{hub, after_call}
 use Rattle.hub_core.specs.Answers.{Answers}
-use Rattle.hub_core.specs.Serves.{Serves, MayCall, GivesGood, hands_ticket, hands_reservation}
+use Rattle.hub_core.specs.Serves.{Serves, MayCall, GivesGood}
 use Rattle.hub_core.specs.HubView.{HubView, past, ServesLocally}
 use Rattle.grid_simulate.specs.World.{simulated_config}
 use Rattle.grid_simulate.specs.Held.{Each, Apart, IsTicket, IsReservation, same_request, same_slot, AreHeld}

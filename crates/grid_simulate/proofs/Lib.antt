@@ -7,7 +7,6 @@ mod CallLemmas
 mod LoopLemmas
 mod JournalLemmas
 mod CrewLemmas
-mod StreamLemmas
 mod CountLemmas
 mod ViewLemmas
 mod DrawLemmas

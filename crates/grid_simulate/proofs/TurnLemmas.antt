@@ -7,14 +7,15 @@ use Rattle.grid_types.specs.declared.entry.Entry.{Entry}
 use Rattle.grid_types.specs.declared.entry.FailWhy.{FailWhy}
 use Rattle.grid_types.specs.Tokens.{Reservation, Closing, is_good_closing}
 use Rattle.grid_types.specs.Calls.{Call, Reply}
+use Rattle.grid_types.specs.HandedIn.{hands_ticket, hands_reservation}
 use Rattle.grid_types.specs.Laws.{is_good_reply}
 use Rattle.grid_types.specs.Permitted.{is_start_failure}
 use Rattle.hub_core.specs.declared.answers.Binding.{Binding}
 use Rattle.hub_core.specs.declared.answers.Failing.{Failing}
 use Rattle.hub_core.specs.Answers.{Answers}
 use Rattle.hub_core.specs.HubView.{HubView, past, ServesLocally}
-use Rattle.hub_core.specs.Replies.{binding_reply, KeepsReservation}
-use Rattle.hub_core.specs.Serves.{MayCall, GivesGood, hands_ticket, hands_reservation}
+use Rattle.hub_core.specs.Replies.{binding_reply}
+use Rattle.hub_core.specs.Serves.{MayCall, GivesGood}
 use Rattle.http_frames.specs.declared.writing.NodeRequest.{NodeRequest}
 use Rattle.grid_outside.specs.Exchanges.{Came, ask_of}
 use Rattle.node_client.specs.declared.wants.CarryAnswer.{CarryAnswer}
@@ -27,7 +28,7 @@ use Rattle.node_client.specs.Steps.{Step, Called, Exchanged}
 use Rattle.node_client.specs.Start.{Refuses, late, node_gone, duplicate, mismatch}
 use Rattle.node_client.specs.Runs.{Runs, Exchanges, Still}
 use Rattle.node_client.specs.Places.{Place, at_start, at_bind, at_return, at_fail, at_quit, at_free, at_end, Wanted, to_ask, to_call, over, Shows, wanted_at, made, asked_step, called_step, IsAsk, Fits, Moves, named, failed_at_node, was_bound, to_quit, to_free, found_no_memory, was_returned, was_quit, gave_up, was_freed, IsGoodAt}
-use Rattle.node_client.specs.Carrying.{Stands, HandsOut, Takes, Feeds, Moved, Finished, FinishedAt, Bind, Fail, Freed}
+use Rattle.node_client.specs.Carrying.{Stands, HandsOut, Feeds, Moved, Finished, FinishedAt, Freed}
 use Rattle.grid_types.specs.declared.names.SlotId.{SlotId}
 use Rattle.grid_types.specs.Slots.{slot_eq}
 use Rattle.grid_types.specs.Lists.{or_else}
@@ -193,34 +194,6 @@ may_free carry H c under told =
     let t = told under.r under.place under.steps under.stands in
     let good : IsGoodAt H 0 under.r (at_free c) = subst (λ (p : Place). IsGoodAt H 0 under.r p) t under.good in
     record { is_good = good; is_true = tt }
-
--- ---- what was taken is what is wanted
-
-pub told_bind : (old mid : Carry) (q : Reservation) (session : List ℕ) (caps : List Cap) (b : Binding) → Takes old Bind mid →
-    ((r : Reservation) (place : Place) (steps : List Step) → Stands old r place steps → (r ≡ q) × (place ≡ at_bind session caps)) → KeepsReservation q session b →
-    (r : Reservation) (place : Place) (steps : List Step) → Stands old r place steps →
-    Stands mid r place steps × (wanted_at r place ≡ to_call (Call.bind q session caps)) × Fits (answers.Bound b) (wanted_at r place)
-told_bind old mid q session caps b takes call back r place steps st =
-    let t = call r place steps st in
-    let w : wanted_at r place ≡ to_call (Call.bind q session caps) = ap (wanted_at r) t.1 ∙ ap (λ (k : Reservation). to_call (Call.bind k session caps)) t.0 in
-    (takes.stands r place steps st, w, subst (λ (z : Wanted). Fits (answers.Bound b) z) (sym w) back)
-
-pub told_fail : (old mid : Carry) (q : Reservation) (v : FailWhy) (f : Failing) → Takes old Fail mid →
-    ((r : Reservation) (place : Place) (steps : List Step) → Stands old r place steps → (r ≡ q) × (place ≡ at_fail v)) →
-    (r : Reservation) (place : Place) (steps : List Step) → Stands old r place steps →
-    Stands mid r place steps × (wanted_at r place ≡ to_call (Call.fail q v)) × Fits (answers.Failed f) (wanted_at r place)
-told_fail old mid q v f takes call r place steps st =
-    let t = call r place steps st in
-    let w : wanted_at r place ≡ to_call (Call.fail q v) = ap (wanted_at r) t.1 ∙ ap (λ (k : Reservation). to_call (Call.fail k v)) t.0 in
-    (takes.stands r place steps st, w, subst (λ (z : Wanted). Fits (answers.Failed f) z) (sym w) tt)
-
-pub told_free : (old mid : Carry) (c : Closing) → Takes old Freed mid →
-    ((r : Reservation) (place : Place) (steps : List Step) → Stands old r place steps → place ≡ at_free c) →
-    (r : Reservation) (place : Place) (steps : List Step) → Stands old r place steps →
-    Stands mid r place steps × (wanted_at r place ≡ to_call (Call.freed c)) × Fits answers.Freed (wanted_at r place)
-told_free old mid c takes call r place steps st =
-    let w : wanted_at r place ≡ to_call (Call.freed c) = ap (wanted_at r) (call r place steps st) in
-    (takes.stands r place steps st, w, subst (λ (z : Wanted). Fits answers.Freed z) (sym w) tt)
 
 -- ---- the end
 

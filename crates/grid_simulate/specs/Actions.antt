@@ -94,7 +94,7 @@ StartsOf w (r ∷ rs) new =
 
 -- ---- sessions
 
--- the node is asked to end the session of the closing, whatever comes of that but want of memory, and then its slot is
+-- the node is asked to end the session of the closing, whatever comes of that but out of memory, and then its slot is
 -- freed
 pub record Quits (c : Closing) (old new : World) : Type 0 where
   pub came : Came

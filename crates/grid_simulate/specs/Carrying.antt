@@ -92,7 +92,7 @@ pub record UnderWay (at : ℕ) (r : Reservation) (old : Grid) (carry : Carry) (n
   pub notes : kept ≡ bound_in steps
 
 -- There are steps by which the grid went on, and they are a start of the reservation. The session is the one that they
--- bound, and the start is short where a step met want of memory.
+-- bound, and the start is short where a step was out of memory.
 pub record Carried (at : ℕ) (r : Reservation) (old : Grid) (end : Option Kept × Bool)
     (new : Grid) : Type 0 where
   pub steps : List Step

@@ -1,5 +1,5 @@
 -- What parts of the end of a session came to.
-use Rattle.std.specs.Prelude.{◌≡◌, ◌≢◌, Bool, true, false, Err, List}
+use Rattle.std.specs.Prelude.{◌≡◌, ◌≢◌, Err, List}
 use Rattle.grid_types.specs.Tokens.{Closing}
 use Rattle.grid_types.specs.Calls.{Call, Reply}
 use Rattle.grid_outside.specs.declared.exchange.ExchangeFault.TheVariants.{Memory}
@@ -11,10 +11,6 @@ use Rattle.grid_simulate.specs.declared.actions.sessions.Idle.{Idle}
 use Rattle.grid_simulate.specs.declared.actions.sessions.Idle.TheVariants as idle
 use Rattle.grid_simulate.specs.World.{World, reply_to, called}
 use Rattle.grid_simulate.specs.Actions.{QuitsIf}
-
-abbrev pub is_no_lack : Came → Bool
-is_no_lack (Err Memory) = false
-is_no_lack came = true
 
 -- the node of the closing was asked to end its session
 pub record Asked (c : Closing) (old new : List Node) : Type 0 where

@@ -27,7 +27,7 @@ abbrev pub bound_in : List Step → Option Kept
 bound_in [] = None
 bound_in (step ∷ steps) = or_else (bound_in steps) (bound_at step)
 
--- The start of the reservation is made at the world's moment, with no want of memory: its steps are a start, the hub
+-- The start of the reservation is made at the world's moment, with no step out of memory: its steps are a start, the hub
 -- and the nodes answer them, and the session that was bound goes to the end of the sessions.
 pub record Starts (r : Reservation) (old new : World) : Type 0 where
   pub steps : List Step

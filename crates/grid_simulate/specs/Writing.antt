@@ -1,18 +1,10 @@
 -- What is written of a simulation.
-use Rattle.std.specs.Prelude.{◌≡◌, ◌≢◌, ℕ, List, [], ◌++◌, Option}
-use Rattle.grid_outside.specs.Told.{Gains}
+use Rattle.std.specs.Prelude.{◌≡◌, ℕ, List, Option}
+use Rattle.grid_outside.specs.Told.{Gains, TookFront}
 use Rattle.hub_core.specs.HubView.{HubView}
 use Rattle.grid_simulate.specs.declared.summary.Summary.{Summary}
 use Rattle.grid_simulate.specs.Simulates.{IsSimulated}
 use Rattle.grid_simulate.specs.Texts.{summary_text}
-
--- a front of the bytes was taken, and not all of them
-pub record StopsWithin (old new : Option (List ℕ)) (bytes : List ℕ) : Type 0 where
-  pub front : List ℕ
-  pub unwritten : List ℕ
-  pub are : front ++ unwritten ≡ bytes
-  pub some : unwritten ≢ []
-  pub gains : Gains old new front
 
 -- there is a simulation of the number, with its summary
 pub record HasSummary (number : ℕ) (summary : Summary) : Type 0 where
@@ -36,4 +28,4 @@ pub record WroteAll (number : ℕ) (old new : Option (List ℕ)) : Type 0 where
 pub record BrokeOff (number : ℕ) (old new : Option (List ℕ)) : Type 0 where
   pub summary : Summary
   pub is : HasSummary number summary
-  pub stops : StopsWithin old new (summary_text number summary)
+  pub stops : TookFront old new (summary_text number summary)

@@ -76,7 +76,7 @@ impl Simulation {
         }
     }
 
-    /// One step. Err is want of memory.
+    /// One step. Err is out of memory.
     pub(crate) fn step(&mut self, alloc: Global) -> Result<(), NoMemory>
         requires sound { IsSound self.old }
         requires room { self.old.moment < 2 ^ 62 }

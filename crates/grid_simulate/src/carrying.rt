@@ -73,7 +73,7 @@ fn turn(
     }
 }
 
-/// Carries a start to its end: the session that was bound, and whether the start met want of memory.
+/// Carries a start to its end: the session that was bound, and whether a step was out of memory.
 pub(crate) fn carry_out(
     alloc: Global,
     reservation: Reservation,

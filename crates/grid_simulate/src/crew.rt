@@ -101,16 +101,10 @@ fn registration_of(
     let Ok(()) = groups.push(group) else {
         return Err(NoMemory);
     };
-    Ok(Registration {
-        name: name_of(alloc, i)?,
-        address: address_of(alloc, i)?,
-        max_sessions: slots,
-        groups,
-        drain_after: None,
-    })
+    Ok(Registration::new(name_of(alloc, i)?, address_of(alloc, i)?, slots, groups))
 }
 
-/// Registers a node at the moment 0. Err is want of memory.
+/// Registers a node at the moment 0. Err is out of memory.
 fn register(hub: &mut LocalHub, registration: Registration) -> Result<(), NoMemory>
     requires config { hub.old.config ≡ simulated_config }
     requires sized { is_well_sized registration ≡ true }

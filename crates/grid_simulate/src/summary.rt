@@ -124,7 +124,7 @@ fn length_of(views: &[WaitView]) -> u64
     views.len() as u64
 }
 
-/// How many requests wait at the hub. Err is want of memory.
+/// How many requests wait at the hub. Err is out of memory.
 fn waiting_count(hub: &LocalHub) -> Result<u64, NoMemory>
     ensures { IfOk result (λ n. n ≡ length (waiting_requests (past hub.now))) }
 {
@@ -176,7 +176,7 @@ fn count(journal: &[Entry], kind: Kind) -> u64
 }
 
 impl Summary {
-    /// The counts over a hub's journal. Err is want of memory.
+    /// The counts over a hub's journal. Err is out of memory.
     pub fn of(hub: &LocalHub) -> Result<Summary, NoMemory>
         ensures { IfOk result (λ s. s ≡ summary_of (past hub.now)) }
     {

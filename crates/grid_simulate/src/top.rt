@@ -33,7 +33,7 @@ pub struct Simulated {
 }
 
 impl Simulation {
-    /// All steps, up to the first that finds no memory. Err is want of memory.
+    /// All steps, up to the first that finds no memory. Err is out of memory.
     fn run(&mut self, alloc: Global) -> Result<(), NoMemory>
         requires sound { IsSound self.old }
         requires first { self.old.moment ≡ 0 }
@@ -47,7 +47,7 @@ impl Simulation {
         Ok(())
     }
 
-    /// Takes the first ticket out and polls it. Err is want of memory.
+    /// Takes the first ticket out and polls it. Err is out of memory.
     fn poll_first(&mut self) -> Result<(), NoMemory>
         requires sound { IsSound self.old }
         requires some { 0 < vec_len self.old.tickets }
@@ -66,7 +66,7 @@ impl Simulation {
         }
     }
 
-    /// Polls each ticket, in order, once all deadlines are past. Err is want of memory.
+    /// Polls each ticket, in order, once all deadlines are past. Err is out of memory.
     fn settle(&mut self) -> Result<(), NoMemory>
         requires sound { IsSound self.old }
         requires moment { self.old.moment ≤ 4_000_000 }
@@ -85,7 +85,7 @@ impl Simulation {
 }
 
 /// The simulation of a number: eight nodes in memory, two thousand steps that the number determines, and a summary.
-/// Then the tokens that are left are spent. After the first want of memory no further step is made, the tokens are
+/// Then the tokens that are left are spent. After the first that is out of memory no further step is made, the tokens are
 /// spent in this way, and the answer is Err.
 pub fn simulate(alloc: Global, number: u64) -> Result<Simulated, NoMemory>
     ensures { IfOk result (λ s. IsSimulated number s.hub s.at s.summary) }

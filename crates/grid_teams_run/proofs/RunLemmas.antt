@@ -1,12 +1,11 @@
 -- A run goes on by a block, or ends.
-use Rattle.std.proofs.Common.{◌≡◌, ◌⊎◌, inl, inr, ℕ, ◌+◌, ◌<◌, ◌≤◌, ◌^◌, List, [], ◌∷◌, ◌++◌, length, refl, sym, ap, subst, ◌∙◌, arith, append_assoc, append-nil, length-append, Result, Ok, Err, OnOk}
+use Rattle.std.proofs.Common.{◌≡◌, inl, inr, ℕ, ◌+◌, ◌<◌, ◌≤◌, List, [], ◌∷◌, ◌++◌, length, refl, sym, ap, subst, ◌∙◌, arith, append_assoc, append-nil, length-append, Result, Ok, Err, OnOk}
 use Rattle.std.specs.Prelude.{Option, None, Some}
 use Rattle.grid_outside.specs.Counts.{Rose}
-use Rattle.grid_outside.specs.Told.{Gains}
+use Rattle.grid_outside.specs.Told.{Gains, SourceView}
 use Rattle.block_frames.specs.Blocks.{IsCut}
 use Rattle.block_frames.specs.Frames.{frame, framed, length_bytes}
-use Rattle.block_frames.specs.Inputs.{InputView, Reads, ReadsSome}
-use Rattle.block_frames.specs.Outputs.{TakesFront}
+use Rattle.block_frames.specs.Inputs.{Reads, ReadsSome}
 use Rattle.grid_play.specs.Talks.{Standing}
 use Rattle.team_words.specs.declared.team_play.TeamPlay.{TeamPlay}
 use Rattle.grid_teams_top.specs.declared.playing.PlayingTeam.{PlayingTeam}
@@ -16,7 +15,7 @@ use Rattle.grid_teams_run.specs.declared.limits.TheConstants.{MOST_INPUT_BYTES}
 use Rattle.grid_teams_run.specs.declared.run_end.RunEnd.{RunEnd}
 use Rattle.grid_teams_run.specs.declared.run_end.RunEnd.TheVariants as ends
 use Rattle.grid_teams_run.specs.Statuses.{status_of}
-use Rattle.grid_teams_run.specs.Running.{EndsSo, HasServed, IsLongBlock, RunView, RunsTo, ServesNext}
+use Rattle.grid_teams_run.specs.Running.{EndsSo, RunView, RunsTo, ServesNext, HasServed, IsLongBlock}
 use Rattle.grid_teams_run.specs.Steps.{AnswersSo, NextAnswered, NextMissing, NextSo, OutputView, ServesTo, SoFar, WritesSo}
 use Rattle.grid_teams_run.proofs.ServesLemmas.{framed_more, served_from, served_more, served_none}
 
@@ -33,7 +32,7 @@ rose_since : (a b c : ℕ) → a ≤ b → Rose b c → Rose a c
 rose_since a b c h (inl x) = inl (omega (arith, h, x))
 rose_since a b c h (inr x) = inr x
 
-reads_more : (xs ys : List ℕ) (left mid fewer : ℕ) (a b c : InputView) → Reads xs left mid a b → Reads ys mid fewer b c → Reads (xs ++ ys) left fewer a c
+reads_more : (xs ys : List ℕ) (left mid fewer : ℕ) (a b c : SourceView) → Reads xs left mid a b → Reads ys mid fewer b c → Reads (xs ++ ys) left fewer a c
 reads_more xs ys left mid fewer a b c r s = record {
   given = gains_more a.given b.given c.given xs ys r.given s.given;
   count = let l = length-append xs ys in omega (arith, r.count, s.count, l);
@@ -89,7 +88,7 @@ module _ (said : List TeamPlay) (first : ℕ → Standing) where
     ends_so = so s.blocks s.reads;
   }
 
-  counted : (blocks : List (List ℕ)) (rest : List ℕ) (left fewer : ℕ) (a b c : InputView) → Reads (framed blocks) MOST_INPUT_BYTES left a b → Reads rest left fewer b c →
+  counted : (blocks : List (List ℕ)) (rest : List ℕ) (left fewer : ℕ) (a b c : SourceView) → Reads (framed blocks) MOST_INPUT_BYTES left a b → Reads rest left fewer b c →
       length (framed blocks ++ rest) + fewer ≡ MOST_INPUT_BYTES
   counted blocks rest left fewer a b c r s = sym (reads_more (framed blocks) rest MOST_INPUT_BYTES left fewer a b c r s).count
 

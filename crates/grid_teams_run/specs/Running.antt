@@ -1,10 +1,9 @@
 -- Blocks of an input that were served, and what each end of a run means.
-use Rattle.std.specs.Prelude.{◌≡◌, ◌⊎◌, ◌≤◌, ◌<◌, ◌+◌, ◌^◌, ℕ, List, [], ◌∷◌, ◌++◌, length, Option, Result, Ok, Err}
+use Rattle.std.specs.Prelude.{◌≡◌, ◌⊎◌, ◌≤◌, ◌<◌, ◌+◌, ◌^◌, ℕ, List, [], ◌∷◌, ◌++◌, length, Option}
 use Rattle.grid_outside.specs.Counts.{Rose}
-use Rattle.grid_outside.specs.Told.{Gains}
+use Rattle.grid_outside.specs.Told.{Gains, SourceView}
 use Rattle.block_frames.specs.Blocks.{IsCut}
 use Rattle.block_frames.specs.Frames.{frame, framed, length_bytes}
-use Rattle.block_frames.specs.Inputs.{InputView}
 use Rattle.grid_play.specs.Talks.{Standing}
 use Rattle.team_words.specs.declared.team_play.TeamPlay.{TeamPlay}
 use Rattle.team_words.specs.Words.{SaysTeams}
@@ -20,11 +19,11 @@ use Rattle.grid_teams_run.specs.Statuses.{status_of}
 
 -- what a run's input and output tell
 pub record RunView : Type 0 where
-  pub input : InputView
+  pub input : SourceView
   pub taken : Option (List ℕ)
   pub faults : ℕ
 
-abbrev pub run_of : InputView → Option (List ℕ) → ℕ → RunView
+abbrev pub run_of : SourceView → Option (List ℕ) → ℕ → RunView
 run_of input taken faults = record { input = input; taken = taken; faults = faults }
 
 -- ---- blocks

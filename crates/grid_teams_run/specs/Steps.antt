@@ -1,11 +1,10 @@
 -- One block more.
-use Rattle.std.specs.Prelude.{◌≡◌, ◌⊎◌, ◌≤◌, ◌<◌, ◌+◌, ◌^◌, ℕ, List, [], ◌∷◌, ◌++◌, length, Option, Result, Ok, Err}
+use Rattle.std.specs.Prelude.{◌≡◌, ◌⊎◌, ◌≤◌, ◌<◌, ◌^◌, ℕ, List, [], length, Option, Result, Ok, Err}
 use Rattle.grid_outside.specs.Counts.{Rose}
-use Rattle.grid_outside.specs.Told.{Gains}
+use Rattle.grid_outside.specs.Told.{Gains, TookFront}
 use Rattle.block_frames.specs.Blocks.{IsCut}
 use Rattle.block_frames.specs.Frames.{frame, framed}
 use Rattle.block_frames.specs.Inputs.{Reads, ReadsSome}
-use Rattle.block_frames.specs.Outputs.{TakesFront}
 use Rattle.grid_play.specs.Talks.{Standing}
 use Rattle.team_words.specs.declared.team_play.TeamPlay.{TeamPlay}
 use Rattle.grid_teams_top.specs.declared.playing.PlayingTeam.{PlayingTeam}
@@ -33,7 +32,7 @@ pub record ServesTo (said : List TeamPlay) (old : List PlayingTeam) (bytes out :
 abbrev pub WritesSo : List ℕ → Result (Unit {0}) RunEnd → OutputView → OutputView → Type 0
 WritesSo out (Ok u) old new = (length out < 2 ^ 32) × Gains old.taken new.taken (frame out)
 WritesSo out (Err ends.TooLong) old new = (2 ^ 32 ≤ length out) × (new ≡ old)
-WritesSo out (Err ends.Write) old new = TakesFront old.taken new.taken (frame out) × Rose old.faults new.faults
+WritesSo out (Err ends.Write) old new = TookFront old.taken new.taken (frame out) × Rose old.faults new.faults
 WritesSo out (Err ends.Memory) old new = ⊥
 WritesSo out (Err ends.Between) old new = ⊥
 WritesSo out (Err ends.Read) old new = ⊥
@@ -47,7 +46,7 @@ AnswersSo said teams bytes (Ok u) others old new =
 AnswersSo said teams bytes (Err ends.TooLong) others old new =
     (out : List ℕ) × ServesTo said teams bytes out others × (2 ^ 32 ≤ length out) × (new ≡ old)
 AnswersSo said teams bytes (Err ends.Write) others old new =
-    (out : List ℕ) × ServesTo said teams bytes out others × TakesFront old.taken new.taken (frame out) × Rose old.faults new.faults
+    (out : List ℕ) × ServesTo said teams bytes out others × TookFront old.taken new.taken (frame out) × Rose old.faults new.faults
 AnswersSo said teams bytes (Err ends.Memory) others old new = new ≡ old
 AnswersSo said teams bytes (Err ends.Between) others old new = ⊥
 AnswersSo said teams bytes (Err ends.Read) others old new = ⊥

@@ -1,6 +1,5 @@
 //! Blocks are read, served and answered one behind the other.
 ghost use Rattle.std.specs.Prelude.{◌≡◌, ◌≤◌, ◌<◌, List, length, OnOk};
-ghost use Rattle.block_frames.specs.Inputs.{input_of};
 ghost use Rattle.team_words.specs.declared.team_play.TeamPlay.{TeamPlay};
 ghost use Rattle.grid_teams_top.specs.declared.playing.TheConstants.{MOST_BLOCK_BYTES};
 ghost use Rattle.grid_teams_top.specs.Blocks.{AllPlay, standings};
@@ -18,9 +17,9 @@ use std::alloc::Global;
 /// Writes what goes out for a block.
 fn write_out<K: Sink>(output: &mut K, out: &[u8]) -> Result<(), RunEnd>
     ensures written { WritesSo out.now result
-        (output_of (K.taken output.old) (K.faults output.old))
-        (output_of (K.taken output.new) (K.faults output.new)) }
-    ensures later { K.faults output.old ≤ K.faults output.new }
+        (output_of (K.view output.old).taken (K.view output.old).faults)
+        (output_of (K.view output.new).taken (K.view output.new).faults) }
+    ensures later { (K.view output.old).faults ≤ (K.view output.new).faults }
 {
     match write_block(output, out) {
         Ok(()) => Ok(()),
@@ -39,9 +38,9 @@ fn answer<K: Sink>(
     requires { length bytes.now ≤ MOST_BLOCK_BYTES }
     ensures answers { (said : List TeamPlay) → AllPlay said teams.old →
         AnswersSo said teams.old bytes.now result teams.new
-        (output_of (K.taken output.old) (K.faults output.old))
-        (output_of (K.taken output.new) (K.faults output.new)) }
-    ensures later { K.faults output.old ≤ K.faults output.new }
+        (output_of (K.view output.old).taken (K.view output.old).faults)
+        (output_of (K.view output.new).taken (K.view output.new).faults) }
+    ensures later { (K.view output.old).faults ≤ (K.view output.new).faults }
 {
     match serve_block(alloc, teams, bytes) {
         Ok(out) => write_out(output, out.as_bytes()),
@@ -60,13 +59,13 @@ fn serve_next<S: Source, K: Sink>(
     requires { 0 < left.old }
     ensures next { (said : List TeamPlay) → AllPlay said teams.old →
         NextSo said teams.old left.old left.new result teams.new
-        (run_of (input_of (S.given input.old) (S.ends input.old) (S.faults input.old))
-        (K.taken output.old) (K.faults output.old))
-        (run_of (input_of (S.given input.new) (S.ends input.new) (S.faults input.new))
-        (K.taken output.new) (K.faults output.new)) }
+        (run_of (S.view input.old)
+        (K.view output.old).taken (K.view output.old).faults)
+        (run_of (S.view input.new)
+        (K.view output.new).taken (K.view output.new).faults) }
     ensures fewer { OnOk result (left.new < left.old) }
-    ensures input_later { S.faults input.old ≤ S.faults input.new }
-    ensures output_later { K.faults output.old ≤ K.faults output.new }
+    ensures input_later { (S.view input.old).faults ≤ (S.view input.new).faults }
+    ensures output_later { (K.view output.old).faults ≤ (K.view output.new).faults }
 {
     match read_block(alloc, input, MOST_BLOCK_BYTES, left) {
         Ok(NextBlock::Block(bytes)) => answer(alloc, teams, bytes.as_bytes(), output),
@@ -88,10 +87,10 @@ pub(crate) fn serve_all<S: Source, K: Sink>(
 ) -> RunEnd
     ensures { (said : List TeamPlay) → AllPlay said teams.old →
         RunsTo said (standings teams.old) result
-        (run_of (input_of (S.given input.old) (S.ends input.old) (S.faults input.old))
-        (K.taken output.old) (K.faults output.old))
-        (run_of (input_of (S.given input.new) (S.ends input.new) (S.faults input.new))
-        (K.taken output.new) (K.faults output.new)) }
+        (run_of (S.view input.old)
+        (K.view output.old).taken (K.view output.old).faults)
+        (run_of (S.view input.new)
+        (K.view output.new).taken (K.view output.new).faults) }
 {
     let mut left = MOST_INPUT_BYTES;
     'each: while left > 0 {

@@ -1,7 +1,6 @@
 //! The top call.
 ghost use Rattle.std.specs.Prelude.{◌≡◌, ◌⊎◌, ◌↔◌, List};
 ghost use Rattle.grid_outside.specs.Counts.{Rose};
-ghost use Rattle.block_frames.specs.Inputs.{input_of};
 ghost use Rattle.team_words.specs.declared.team_play.TeamPlay.{TeamPlay};
 ghost use Rattle.team_words.specs.Words.{SaysTeams};
 ghost use Rattle.grid_teams_run.specs.Running.{FitTeams, Ran, run_of};
@@ -32,10 +31,10 @@ fn run_said<S: Source, K: Sink>(
 ) -> u8
     requires { AllMayStart said.now }
     ensures { Ran said.now result
-        (run_of (input_of (S.given input.old) (S.ends input.old) (S.faults input.old))
-        (K.taken output.old) (K.faults output.old))
-        (run_of (input_of (S.given input.new) (S.ends input.new) (S.faults input.new))
-        (K.taken output.new) (K.faults output.new)) }
+        (run_of (S.view input.old)
+        (K.view output.old).taken (K.view output.old).faults)
+        (run_of (S.view input.new)
+        (K.view output.new).taken (K.view output.new).faults) }
 {
     match start_all(alloc, said) {
         Ok(mut teams) => status_of(serve_all(alloc, teams.as_mut_slice(), input, output)),
@@ -61,10 +60,10 @@ pub fn teams_run<S: Source, K: Sink>(
     ensures words { (result ≡ 2) ↔ ¬ (FitTeams words.now) }
     ensures untouched { result ≡ 2 → (input.new ≡ input.old) × (output.new ≡ output.old) }
     ensures ran { (said : List TeamPlay) → SaysTeams words.now said → Ran said result
-        (run_of (input_of (S.given input.old) (S.ends input.old) (S.faults input.old))
-        (K.taken output.old) (K.faults output.old))
-        (run_of (input_of (S.given input.new) (S.ends input.new) (S.faults input.new))
-        (K.taken output.new) (K.faults output.new)) }
+        (run_of (S.view input.old)
+        (K.view output.old).taken (K.view output.old).faults)
+        (run_of (S.view input.new)
+        (K.view output.new).taken (K.view output.new).faults) }
 {
     // Laws of what lies below, which do nothing.
     words_say_one_list();

@@ -24,7 +24,9 @@ use Rattle.conn_script.specs.declared.wants.End.TheVariants as ends
 use Rattle.conn_script.specs.declared.wants.Served.{Served}
 use Rattle.conn_script.specs.declared.wants.TheConstants.{LIMIT}
 use Rattle.hub_conn.specs.Conversation.{Finished, IsOpen}
-use Rattle.local_driver.specs.Served.{EndsSo, ServedLocally, outside_of}
+use Rattle.hub_conn.specs.Talk.{end_cause}
+use Rattle.hub_links.specs.Links.{RoseFor}
+use Rattle.local_driver.specs.Served.{ServedLocally, outside_of}
 use Rattle.local_driver.specs.World.{Answered, world_of}
 use Rattle.loop_node.specs.declared.links.LoopNodes.{LoopNodes}
 use Rattle.loop_node.specs.LinkedNodes.{nodes_reached}
@@ -52,7 +54,7 @@ exchanges_reached n k (Exchanged address ask came ∷ steps) e = (nodes_reached 
 exchanges_reached n k (Paused ms ∷ steps) e = exchanges_reached n k steps e
 
 -- where an end of the input is told, the block was read to its end
-at_end : (end : End) (old new : LinkView) (at n : ℕ) → EndsSo end old new → old.ends ≡ 0 → (0 < new.ends → at ≡ n) → IsOpen end → at ≡ n
+at_end : (end : End) (old new : LinkView) (at n : ℕ) → RoseFor (end_cause end) old new → old.ends ≡ 0 → (0 < new.ends → at ≡ n) → IsOpen end → at ≡ n
 at_end ends.Closed old new at n (inl x) none whole unended = whole (omega (arith, x, none))
 at_end ends.Closed old new at n (inr x) none whole unended = whole (omega (arith, x))
 at_end (ends.Cut place) old new at n (inl x) none whole unended = whole (omega (arith, x, none))

@@ -28,4 +28,6 @@ pub mod FreeSlotLemmas
 pub mod HeldCountLemmas
 pub mod SweepLemmas
 pub mod DigitLemmas
+pub mod NumberLemmas
+pub mod AsciiLemmas
 pub mod SizeLemmas

@@ -17,6 +17,7 @@ pub mod Permitted
 pub mod Legal
 pub mod Tokens
 pub mod Calls
+pub mod HandedIn
 pub mod Overview
 pub mod HubAnswers
 pub mod Safe

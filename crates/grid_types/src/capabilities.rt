@@ -276,6 +276,29 @@ pub struct Registration {
     pub drain_after: Option<u32>,
 }
 
+impl Registration {
+    ghost use Rattle.std.specs.Prelude.{◌≡◌, None};
+
+    /// What a node says that drains by no count.
+    pub fn new(name: Text, address: NodeAddress, max_sessions: u16, groups: Groups) -> Registration
+        ensures { result ≡ record {
+          name = name;
+          address = address;
+          max_sessions = max_sessions;
+          groups = groups;
+          drain_after = None;
+        } }
+    {
+        Registration {
+            name,
+            address,
+            max_sessions,
+            groups,
+            drain_after: None,
+        }
+    }
+}
+
 impl Clone for Registration {
     ghost use Rattle.std.specs.Prelude.{◌≡◌};
 

@@ -4,6 +4,7 @@
 
 mod capabilities;
 mod config;
+mod digits;
 mod entry;
 mod laws;
 mod limits;
@@ -17,6 +18,7 @@ mod worked;
 
 pub use capabilities::{Cap, CapValue, Caps, Choices, Groups, Registration, SlotGroup};
 pub use config::HubConfig;
+pub use digits::{are_digits, node_number, number_within};
 pub use entry::{Change, EndCause, Entry, FailWhy, Found, Outcome};
 pub use laws::{
     calls_give_good_tokens, calls_stay_legal, chosen_is_first, history_laws, legal_is_safe,
@@ -28,7 +30,10 @@ pub use limits::{
     MOST_DRAIN_AFTER, MOST_IDLE_MS, MOST_LAPSE_MS, MOST_NAME_BYTES, MOST_NODES, MOST_QUEUE_BYTES,
     MOST_QUEUE_TIME_MS, MOST_REQUESTS, MOST_SESSIONS, MOST_SLOTS, fixed_limits,
 };
-pub use names::{Moment, NodeAddress, NodeNo, ReqNo, SessionId, SlotId, Words};
+pub use names::{
+    Moment, NodeAddress, NodeNo, ReqNo, SessionId, SlotId, Words, are_address_bytes,
+    are_node_name_bytes, are_session_bytes,
+};
 pub use queue_time::{QUEUE_TIME_NAME, queue_time_name, time_of_value, time_to_wait};
 pub use request_size::request_bytes;
 pub use spent::Spent;

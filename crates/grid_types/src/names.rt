@@ -2,9 +2,10 @@
 ghost use Rattle.std.specs.Prelude.{◌≡◌, ◌≤◌, List, ℕ, IfSome, is_some, IsTrue, IsUtf8, length, replicate};
 ghost use Rattle.grid_types.specs.Padded.{padded};
 ghost use Rattle.std.specs.List.{list_all};
-ghost use Rattle.grid_types.specs.Names.{is_session_byte, is_session_name, is_address_byte, is_node_address, IsCutAt};
+ghost use Rattle.grid_types.specs.Names.{is_session_byte, is_session_name, is_address_byte, is_node_address, is_node_name_byte, IsCutAt};
 
 use std::marker::Model;
+use std::str::from_utf8;
 
 /// A time in milliseconds, from a start that the clock chose.
 ///
@@ -37,7 +38,8 @@ fn fill(content: &mut [u8], bytes: &[u8])
     }
 }
 
-fn are_session_bytes(bytes: &[u8]) -> bool
+/// Whether the bytes are such as the id of a session has: letters, digits, `-` and `_`.
+pub fn are_session_bytes(bytes: &[u8]) -> bool
     ensures { result ≡ list_all is_session_byte bytes.now }
 {
     bytes
@@ -45,10 +47,18 @@ fn are_session_bytes(bytes: &[u8]) -> bool
         .all(|b| b.is_ascii_alphanumeric() || *b == b'-' || *b == b'_')
 }
 
-fn are_address_bytes(bytes: &[u8]) -> bool
+/// Whether the bytes are such as the address of a node has: from `!` to `~`.
+pub fn are_address_bytes(bytes: &[u8]) -> bool
     ensures { result ≡ list_all is_address_byte bytes.now }
 {
     bytes.iter().all(|b| *b >= b'!' && *b <= b'~')
+}
+
+/// Whether the bytes are such as the name of a node has: letters, digits, `-`, `_` and `.`.
+pub fn are_node_name_bytes(bytes: &[u8]) -> bool
+    ensures { result ≡ list_all is_node_name_byte bytes.now }
+{
+    bytes.iter().all(|b| b.is_ascii_alphanumeric() || *b == b'-' || *b == b'_' || *b == b'.')
 }
 
 /// A session's id: 1 to 128 letters, digits, '-' and '_', seen as the list of its bytes.
@@ -60,7 +70,6 @@ pub struct SessionId {
 
 impl Model for SessionId {
     ghost use Rattle.std.specs.Prelude.{ℕ, List, take, length, ◌≡◌, true, refl};
-    ghost use Rattle.std.proofs.Common.{ap};
     ghost use Rattle.grid_types.specs.Padded.{IsPadded, padded};
     ghost use Rattle.grid_types.specs.Names.{is_session_name};
     ghost use Rattle.grid_types.specs.Padded.{length-kept, padded-kept};
@@ -99,6 +108,16 @@ impl SessionId {
         ensures rule { IsTrue (is_session_name self.now) }
     {
         &self.content[..self.len]
+    }
+
+    /// The id as text. It takes no memory.
+    pub fn as_str(&self) -> &str
+        ensures { result.now ≡ self.now }
+    {
+        match from_utf8(self.as_bytes()) {
+            Ok(id) => id,
+            Err(_) => unreachable!(),
+        }
     }
 }
 
@@ -150,6 +169,16 @@ impl NodeAddress {
     {
         &self.content[..self.len]
     }
+
+    /// The address as text. It takes no memory.
+    pub fn as_str(&self) -> &str
+        ensures { result.now ≡ self.now }
+    {
+        match from_utf8(self.as_bytes()) {
+            Ok(address) => address,
+            Err(_) => unreachable!(),
+        }
+    }
 }
 
 /// A message of a node, of at most 200 bytes of UTF-8, seen as their list.
@@ -196,7 +225,7 @@ impl Words {
         ensures utf8 { IsUtf8 self.now }
         ensures few { length self.now ≤ 200 }
     {
-        match std::str::from_utf8(&self.content[..self.len]) {
+        match from_utf8(&self.content[..self.len]) {
             Ok(words) => words,
             Err(_) => unreachable!(),
         }

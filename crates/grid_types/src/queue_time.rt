@@ -1,7 +1,5 @@
 //! How long a request may wait, by the extension capability `grid:queueTimeout` of its choices.
 ghost use Rattle.std.specs.Prelude.{◌≡◌, List, ℕ, Option, codes};
-ghost use Rattle.std.specs.List.{list_all};
-ghost use Rattle.std.specs.Char.{is_ascii_digit};
 ghost use Rattle.std.specs.Str.Parse.{digits_value};
 ghost use Rattle.grid_types.specs.declared.capabilities.Cap.{Cap};
 ghost use Rattle.grid_types.specs.declared.queue_time.TheConstants.{QUEUE_TIME_NAME};
@@ -10,6 +8,7 @@ ghost use Rattle.grid_types.specs.QueueTime.{is_queue_time, queue_time_of, asked
 
 use crate::capabilities::{Cap, CapValue, Caps, Choices};
 use crate::config::HubConfig;
+use crate::digits::are_digits;
 use crate::limits::{LEAST_QUEUE_TIME_MS, MOST_QUEUE_TIME_MS};
 
 /// The extension capability by which a request asks for a time of its own, in milliseconds.
@@ -19,12 +18,6 @@ pub const QUEUE_TIME_NAME: &str = "grid:queueTimeout";
 pub fn queue_time_name()
     ensures { QUEUE_TIME_NAME.now ≡ codes "grid:queueTimeout" }
 {}
-
-fn are_digits(bytes: &[u8]) -> bool
-    ensures { result ≡ list_all is_ascii_digit bytes.now }
-{
-    bytes.iter().all(|b| b.is_ascii_digit())
-}
 
 /// The number of milliseconds that digits alone write, where a request may ask for it.
 fn milliseconds(text: &str) -> Option<u64>

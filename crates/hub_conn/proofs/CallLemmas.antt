@@ -2,8 +2,8 @@
 use Rattle.std.proofs.Common.{◌≡◌, ◌⊎◌, ℕ, ◌≤◌, true, false, List, [], ◌∷◌, ◌++◌, length, refl, sym, ap, ◌∙◌, subst, arith, length-append, inl, inr}
 use Rattle.std.specs.Prelude.{Option, Result}
 use Rattle.grid_types.specs.Calls.{Call}
+use Rattle.grid_types.specs.HandedIn.{hands_ticket}
 use Rattle.grid_types.specs.Tokens.{Ticket, Reservation}
-use Rattle.hub_core.specs.Serves.{hands_ticket}
 use Rattle.http_frames.specs.Frames.{Request}
 use Rattle.node_client.specs.Held.{Token, of_ticket, of_reservation, of_closing, carry_tokens}
 use Rattle.node_client.specs.Places as places

@@ -1,7 +1,7 @@
 -- What holds of the call that is wanted, and of the tokens that are held beside it.
 use Rattle.std.specs.Prelude.{◌≡◌, ℕ, true, false, List, [], ◌∷◌, ◌++◌, Option}
 use Rattle.grid_types.specs.Calls.{Call}
-use Rattle.hub_core.specs.Serves.{hands_ticket, hands_reservation, hands_closing}
+use Rattle.grid_types.specs.HandedIn.{hands_ticket, hands_reservation, hands_closing}
 use Rattle.node_client.specs.Held.{Token, of_ticket, of_reservation, of_closing}
 use Rattle.node_client.specs.Steps.{Step}
 use Rattle.conn_script.specs.Wanted.{Wanted, to_read, to_write, to_begin, to_call, over, call_tokens, is_rightful}

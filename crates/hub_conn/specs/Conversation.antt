@@ -21,42 +21,42 @@ use Rattle.conn_script.specs.Begin.{Begun, BegunLacks}
 
 -- what is written for a whole request: `100 Continue` where its client waits for that, and its response
 abbrev pub answer_text : Request → Response → List ℕ
-answer_text f response = continue_text (expects LIMITS f.0) ++ bytes_of response (closes f.0)
+answer_text request response = continue_text (expects LIMITS request.0) ++ bytes_of response (closes request.0)
 
 -- A request's steps, with those before it, for a driver with these nodes of its own or with none.
-pub record Answers (own : Option (List ℕ)) (f : Request) (steps : List Step) (response : Response) : Type 0 where
+pub record Answers (own : Option (List ℕ)) (request : Request) (steps : List Step) (response : Response) : Type 0 where
   pub begun : List Step
   pub script_steps : List Step
   pub begins : Begun own begun
-  pub script : Script f script_steps response
+  pub script : Script request script_steps response
   pub steps_are : steps ≡ begun ++ script_steps
 
 -- The steps of requests one after the other and what is written for them; and whether the hub was spent, which can only
 -- be in the last.
 pub data Scripts (own : Option (List ℕ)) : List Request → List Step → List ℕ → Bool → Type 0 where
   none : Scripts own [] [] [] false
-  last_spent : (f : Request) (steps : List Step) (response : Response) → response ≡ said.hub_spent →
-      Answers own f steps response → Scripts own (f ∷ []) steps (answer_text f response) true
-  next : (f : Request) (requests : List Request) (steps more : List Step) (response : Response) (written : List ℕ) (spent : Bool) →
-      is_last response ≡ false → Answers own f steps response → Scripts own requests more written spent →
-      Scripts own (f ∷ requests) (steps ++ more) (answer_text f response ++ written) spent
+  last_spent : (request : Request) (steps : List Step) (response : Response) → response ≡ said.hub_spent →
+      Answers own request steps response → Scripts own (request ∷ []) steps (answer_text request response) true
+  next : (request : Request) (requests : List Request) (steps more : List Step) (response : Response) (written : List ℕ) (spent : Bool) →
+      is_last response ≡ false → Answers own request steps response → Scripts own requests more written spent →
+      Scripts own (request ∷ requests) (steps ++ more) (answer_text request response ++ written) spent
 
 -- the bytes begin with these requests, of which only the last may close, and then rest
 abbrev pub BeginsWith : List ℕ → List Request → List ℕ → Type 0
 BeginsWith bytes [] rest = bytes ≡ rest
-BeginsWith bytes (f ∷ requests) rest =
-    (behind : List ℕ) × IsWhole LIMITS bytes f.0 f.1 behind × ((closes f.0 ≡ false) ⊎ (requests ≡ [])) × BeginsWith behind requests rest
+BeginsWith bytes (request ∷ requests) rest =
+    (behind : List ℕ) × IsWhole LIMITS bytes request.0 request.1 behind × ((closes request.0 ≡ false) ⊎ (requests ≡ [])) × BeginsWith behind requests rest
 
 -- the bytes begin with these requests, none of which closes, and then rest
 abbrev pub ReadsTo : List ℕ → List Request → List ℕ → Type 0
 ReadsTo bytes [] rest = bytes ≡ rest
-ReadsTo bytes (f ∷ requests) rest =
-    (behind : List ℕ) × IsWhole LIMITS bytes f.0 f.1 behind × (closes f.0 ≡ false) × ReadsTo behind requests rest
+ReadsTo bytes (request ∷ requests) rest =
+    (behind : List ℕ) × IsWhole LIMITS bytes request.0 request.1 behind × (closes request.0 ≡ false) × ReadsTo behind requests rest
 
 -- whether the client of a request at the front waits for `100 Continue`: its head is accepted and says so
 pub record Waits (rest : List ℕ) (waits : Bool) : Type 0 where
-  pub accepted : (h : RequestHead) → IsAccepted LIMITS rest h → waits ≡ expects LIMITS h
-  pub only : IsTrue waits → (h : RequestHead) × IsAccepted LIMITS rest h
+  pub accepted : (head : RequestHead) → IsAccepted LIMITS rest head → waits ≡ expects LIMITS head
+  pub only : IsTrue waits → (head : RequestHead) × IsAccepted LIMITS rest head
 
 -- how the stream ends behind the requests, whether the hub is spent, and what is written for the end itself
 pub data EndsSo (bytes : List ℕ) (requests : List Request) (rest : List ℕ) : End → Bool → List ℕ → Type 0 where
@@ -99,10 +99,10 @@ pub data Words (rest : List ℕ) : List ℕ → Type 0 where
 -- its request, and then what is done where a response was not taken whole
 pub data Breaks (own : Option (List ℕ)) (rest : List ℕ) : List Step → List ℕ → Type 0 where
   in_words : (taken unwritten : List ℕ) → Words rest (taken ++ unwritten) → 0 < length unwritten → Breaks own rest [] taken
-  in_response : (mine undone : List Step) (f : Request) (behind : List ℕ) (response : Response) (taken unwritten : List ℕ) →
-      IsWhole LIMITS rest f.0 f.1 behind → Answers own f mine response → bytes_of response (closes f.0) ≡ taken ++ unwritten →
+  in_response : (mine undone : List Step) (request : Request) (behind : List ℕ) (response : Response) (taken unwritten : List ℕ) →
+      IsWhole LIMITS rest request.0 request.1 behind → Answers own request mine response → bytes_of response (closes request.0) ≡ taken ++ unwritten →
       0 < length unwritten → Undoes response undone →
-      Breaks own rest (mine ++ undone) (continue_text (expects LIMITS f.0) ++ taken)
+      Breaks own rest (mine ++ undone) (continue_text (expects LIMITS request.0) ++ taken)
 
 -- a write failed: what was taken is a front, and behind a request that closes nothing is written
 pub record WriteBroke (own : Option (List ℕ)) (bytes : List ℕ) (steps : List Step) (written : List ℕ) : Type 0 where
@@ -122,8 +122,8 @@ pub record WriteBroke (own : Option (List ℕ)) (bytes : List ℕ) (steps : List
 pub data LacksBehind (own : Option (List ℕ)) (rest : List ℕ) : List Step → Type 0 where
   no_request : LacksBehind own rest []
   before_request : (steps : List Step) → BegunLacks own steps → LacksBehind own rest steps
-  in_request : (f : Request) (behind : List ℕ) (begun steps : List Step) → IsWhole LIMITS rest f.0 f.1 behind → Begun own begun →
-      Lacks f steps → LacksBehind own rest (begun ++ steps)
+  in_request : (request : Request) (behind : List ℕ) (begun steps : List Step) → IsWhole LIMITS rest request.0 request.1 behind → Begun own begun →
+      Lacks request steps → LacksBehind own rest (begun ++ steps)
 
 -- Memory was wanted: what was written ends with a whole response or a whole `100 Continue`. It is wanted for bytes that no answered
 -- request holds, and no request that was answered closes: behind the last response, or where nothing is left to answer, it never is.

@@ -1,9 +1,10 @@
 -- How a link goes on by one read or write and by more of them, and what an answer to one adds.
-use Rattle.std.proofs.Common.{◌≡◌, inl, inr, ℕ, ◌≤◌, false, true, List, [], ◌++◌, length, refl, sym, ap, subst, ◌∙◌, append-nil, append_assoc, arith}
-use Rattle.std.specs.Prelude.{Option, None, Some}
+use Rattle.std.proofs.Common.{◌≡◌, ℕ, ◌≤◌, false, true, List, [], ◌++◌, length, refl, sym, ap, subst, ◌∙◌, arith}
+use Rattle.std.specs.Prelude.{Option}
 use Rattle.grid_outside.specs.Counts.{Rose}
 use Rattle.grid_outside.specs.Lines.{LooksSo}
 use Rattle.grid_outside.specs.Told.{Gains, LinkView}
+use Rattle.grid_outside.specs.StreamLaws.{gains_more, gains_none, rose_later, rose_on}
 use Rattle.node_client.specs.Held.{Token}
 use Rattle.conn_script.specs.declared.wants.Answer.{Answer}
 use Rattle.conn_script.specs.declared.wants.Answer.TheVariants as told
@@ -12,18 +13,8 @@ use Rattle.hub_conn.specs.declared.talk.Talk.{Talk}
 use Rattle.hub_conn.specs.Talk.{Cause, KeepsTokens, of_read, of_write, of_end, of_nothing, cause_after, cause_of, tokens}
 use Rattle.hub_links.specs.Links.{Moved, RoseFor}
 
-pub gains_none : (o : Option (List ℕ)) → Gains o o []
-gains_none None = tt
-gains_none (Some told) = ap Some (sym (append-nil told))
-
 pub gains_same : (o p : Option (List ℕ)) → p ≡ o → Gains o p []
 gains_same o p e = subst (λ (q : Option (List ℕ)). Gains o q []) (sym e) (gains_none o)
-
-gains_more : (a b c : Option (List ℕ)) (xs ys : List ℕ) → Gains a b xs → Gains b c ys → Gains a c (xs ++ ys)
-gains_more None b c xs ys p q = tt
-gains_more (Some told) b c xs ys p q =
-    let next : c ≡ Some ((told ++ xs) ++ ys) = subst (λ (o : Option (List ℕ)). Gains o c ys) p q in
-    next ∙ ap Some (append_assoc told xs ys)
 
 pub moved_none : (l : LinkView) → Moved l [] [] l
 moved_none l = record { given = gains_none l.given; taken = gains_none l.taken; read_faults = omega arith; write_faults = omega arith; ends = omega arith }
@@ -39,26 +30,18 @@ moved_more k l m bytes more written again p q = record {
 
 -- ---- counts
 
-rose_before : (a b c : ℕ) → a ≤ b → Rose b c → Rose a c
-rose_before a b c le (inl lt) = inl (omega (arith, le, lt))
-rose_before a b c le (inr top) = inr top
-
-rose_after : (a b c : ℕ) → Rose a b → b ≤ c → Rose a c
-rose_after a b c (inl lt) le = inl (omega (arith, le, lt))
-rose_after a b c (inr top) le = inr (omega (arith, le, top))
-
 rose_first : (cause : Cause) (k l m : LinkView) (bytes written : List ℕ) → Moved k bytes written l → l.ends ≡ k.ends → RoseFor cause l m → RoseFor cause k m
-rose_first of_read k l m bytes written p none rose = rose_before k.read_faults l.read_faults m.read_faults p.read_faults rose
-rose_first of_write k l m bytes written p none rose = rose_before k.write_faults l.write_faults m.write_faults p.write_faults rose
-rose_first of_end k l m bytes written p none rose = rose_before k.ends l.ends m.ends p.ends rose
+rose_first of_read k l m bytes written p none rose = rose_later k.read_faults l.read_faults m.read_faults p.read_faults rose
+rose_first of_write k l m bytes written p none rose = rose_later k.write_faults l.write_faults m.write_faults p.write_faults rose
+rose_first of_end k l m bytes written p none rose = rose_later k.ends l.ends m.ends p.ends rose
 rose_first of_nothing k l m bytes written p none rose = rose ∙ none
 
 -- what was blamed stays blamed, and else what the answer tells is
 pub caused_on : (cause : Cause) (answer : Answer) (k l m : LinkView) (bytes written more again : List ℕ) → Moved k bytes written l → Moved l more again m →
     RoseFor cause k l → RoseFor (cause_of answer) l m → RoseFor (cause_after cause answer) k m
-caused_on of_read answer k l m bytes written more again p q rose next = rose_after k.read_faults l.read_faults m.read_faults rose q.read_faults
-caused_on of_write answer k l m bytes written more again p q rose next = rose_after k.write_faults l.write_faults m.write_faults rose q.write_faults
-caused_on of_end answer k l m bytes written more again p q rose next = rose_after k.ends l.ends m.ends rose q.ends
+caused_on of_read answer k l m bytes written more again p q rose next = rose_on k.read_faults l.read_faults m.read_faults rose q.read_faults
+caused_on of_write answer k l m bytes written more again p q rose next = rose_on k.write_faults l.write_faults m.write_faults rose q.write_faults
+caused_on of_end answer k l m bytes written more again p q rose next = rose_on k.ends l.ends m.ends rose q.ends
 caused_on of_nothing answer k l m bytes written more again p q rose next = rose_first (cause_of answer) k l m bytes written p rose next
 
 -- ---- answers to a read or to a write
@@ -119,3 +102,16 @@ looked l m looks = (
   },
   looks.3,
 )
+
+-- a piece is no longer than was wanted
+pub few_bytes : (answer : Answer) (most : ℕ) → IsAwaited answer (piece most) → length (bytes_in answer) ≤ most
+few_bytes (told.Bytes bytes) most h = h
+few_bytes told.EndOfInput most h = omega arith
+few_bytes told.ReadFailed most h = omega arith
+few_bytes (told.Wrote n) most h = absurd h
+few_bytes told.WriteFailed most h = absurd h
+few_bytes told.Begun most h = absurd h
+few_bytes (told.Hub answer) most h = absurd h
+few_bytes (told.Node came) most h = absurd h
+few_bytes told.Paused most h = absurd h
+few_bytes told.Gone most h = omega arith

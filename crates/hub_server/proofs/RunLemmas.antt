@@ -1,13 +1,9 @@
 -- How a run of the links goes on from what came before it.
-use Rattle.std.proofs.Common.{◌≡◌, ℕ, ◌+◌, ◌-◌, ◌^◌, ◌<◌, ◌≤◌, ◌⊎◌, ◌∙◌, inl, inr, arith}
+use Rattle.std.proofs.Common.{◌≡◌, ℕ, ◌-◌, ◌∙◌, arith}
 use Rattle.grid_outside.specs.Counts.{Rose}
-use Rattle.grid_outside.specs.Told.{DoorView}
-use Rattle.hub_server.specs.Statuses.{HasRun, NoneFell}
-
--- a count that rose after it did not fall rose
-rose_later : (a b c : ℕ) → a ≤ b → Rose b c → Rose a c
-rose_later a b c h (inl x) = inl (omega (arith, h, x))
-rose_later a b c h (inr x) = inr x
+use Rattle.grid_outside.specs.Told.{DoorView, NoneFell}
+use Rattle.grid_outside.specs.StreamLaws.{rose_later}
+use Rattle.hub_server.specs.Statuses.{HasRun}
 
 pub run_later : (old mid new : DoorView) (status : ℕ) → NoneFell old mid → HasRun mid new status → HasRun old new status
 run_later old mid new status n r = record {

@@ -2,14 +2,7 @@
 use Rattle.std.specs.Prelude.{◌≡◌, ℕ, ◌≤◌, ◌⊎◌, Some}
 use Rattle.std.specs.declared.net.ip_addr.IpAddr.{IpAddr}
 use Rattle.grid_outside.specs.Counts.{Rose}
-use Rattle.grid_outside.specs.Told.{DoorView}
-
--- no count of a door fell, and it is set and bound where it was
-pub record NoneFell (old new : DoorView) : Type 0 where
-  pub ends : old.ends ≤ new.ends
-  pub faults : old.faults ≤ new.faults
-  pub bound : new.bound ≡ old.bound
-  pub host : new.host ≡ old.host
+use Rattle.grid_outside.specs.Told.{DoorView, NoneFell}
 
 -- The links ended behind a door that is bound: it was found closed, or it failed, or there was no memory.
 pub record HasRun (old new : DoorView) (status : ℕ) : Type 0 where

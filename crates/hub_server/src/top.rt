@@ -6,7 +6,8 @@ ghost use Rattle.hub_cell.specs.Passes.{IsOf, spares_of};
 ghost use Rattle.server_words.specs.HubOptions.{AreWithin, hub_said};
 ghost use Rattle.server_words.specs.Hosts.{IsHostText, TellsHost, host_said};
 ghost use Rattle.server_words.specs.declared.options.WordsFault.TheVariants as faults;
-ghost use Rattle.hub_server.specs.Statuses.{HasRun, HasServed, NoneFell};
+ghost use Rattle.grid_outside.specs.Told.{NoneFell};
+ghost use Rattle.hub_server.specs.Statuses.{HasRun, HasServed};
 
 use crate::beside::{House, serve_beside_house};
 use crate::handling::{DOOR_FAILED, NO_MEMORY};

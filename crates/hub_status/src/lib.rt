@@ -8,7 +8,6 @@
 #![tactic(auto)]
 
 mod comma;
-mod names;
 mod nodes;
 mod queue;
 mod slots;

@@ -5,7 +5,6 @@ ghost use Rattle.grid_types.specs.Capabilities.{written_caps};
 ghost use Rattle.hub_status.specs.Status.{availability as availability_of, written_group, written_groups, written_limits, written_names, written_node};
 
 use crate::comma::push_comma;
-use crate::names::address_text;
 use crate::slots::push_states;
 use grid_types::{Caps, NoMemory, NodeView, SlotGroup, SlotState, Standing};
 use std::alloc::Global;
@@ -50,7 +49,7 @@ fn push_names(alloc: Global, text: &mut String, node: &NodeView) -> Result<(), N
     write!(text, "{{\"node\":{},\"name\":", node.node)?;
     text.push_str(json_text(alloc, node.registration.name.as_str())?.as_str())?;
     text.push_str(",\"address\":")?;
-    text.push_str(json_text(alloc, address_text(&node.registration.address))?.as_str())?;
+    text.push_str(json_text(alloc, node.registration.address.as_str())?.as_str())?;
     Ok(())
 }
 

@@ -4,7 +4,6 @@ ghost use Rattle.std.specs.List.{join_with_byte};
 ghost use Rattle.hub_status.specs.Status.{state_name as name_of, state_session, written_state, written_states};
 
 use crate::comma::push_comma;
-use crate::names::session_text;
 use grid_types::{NoMemory, SlotState};
 use std::fmt::Write;
 
@@ -58,7 +57,7 @@ fn push_session(text: &mut String, state: &SlotState) -> Result<(), NoMemory>
     match state {
         SlotState::Busy(session) => {
             text.push_str("\"")?;
-            text.push_str(session_text(session))?;
+            text.push_str(session.as_str())?;
             text.push_str("\"")?;
         }
         SlotState::Free | SlotState::Held | SlotState::Closing => text.push_str("null")?,

@@ -6,7 +6,8 @@ use Rattle.grid_outside.specs.Counts.{Rose}
 use Rattle.grid_outside.specs.Told.{LinkView}
 use Rattle.conn_script.specs.declared.wants.ConnFault.{ConnFault}
 use Rattle.conn_script.specs.declared.wants.Served.{Served}
-use Rattle.local_driver.specs.Served.{Blames}
+use Rattle.hub_conn.specs.Talk.{result_cause}
+use Rattle.hub_links.specs.Links.{RoseFor}
 use Rattle.grid_play.specs.Ran.{status_of as conn_status}
 use Rattle.grid_play.specs.ServedTalks.{StatusesTell, TellsStatus}
 use Rattle.row_keeper.specs.Disks.{Disk}
@@ -53,7 +54,7 @@ few_of : (n : ℕ) → (n ≡ 0) ⊎ ((2 < n) × (n < 7)) → (n ≡ 0) ⊎ (((2
 few_of n (inl z) = inl z
 few_of n (inr h) = inr (inl h)
 
-pub tells_conn : (f g : ℕ) (e : Result Served ConnFault) (status : ℕ) (before after : LinkView) → StatusesTell → status ≡ conn_status e → Blames e before after → TellsKept status f g before after
+pub tells_conn : (f g : ℕ) (e : Result Served ConnFault) (status : ℕ) (before after : LinkView) → StatusesTell → status ≡ conn_status e → RoseFor (result_cause e) before after → TellsKept status f g before after
 tells_conn f g e status before after law is blames = subst (λ (s : ℕ). TellsKept s f g before after) (sym is) (by_status (law e before after blames))
   where
     by_status : TellsStatus (conn_status e) before after → TellsKept (conn_status e) f g before after

@@ -64,15 +64,15 @@ fn serve_over<S: Source, K: Sink, P: Keeper>(
 ) -> u8
     requires { IsOpen P.disk hub.old }
     ensures served { ServedOrStops hub.old.hub.config own.now (past hub.old.hub) nodes.old result
-        (link_of (S.given input.old) (K.taken output.old) (S.faults input.old) (K.faults output.old) (S.ends input.old))
-        (link_of (S.given input.new) (K.taken output.new) (S.faults input.new) (K.faults output.new) (S.ends input.new))
+        (link_of (S.view input.old) (K.view output.old))
+        (link_of (S.view input.new) (K.view output.new))
         (past hub.new.hub) (P.disk hub.new.keeper) }
     ensures went { WentAlong P.disk hub.old hub.new }
     ensures runs { RunsOrBreaks P.disk hub.old hub.new }
     ensures later { P.faults hub.old.keeper ≤ P.faults hub.new.keeper }
     ensures tells { TellsKept result (P.faults hub.old.keeper) (P.faults hub.new.keeper)
-        (link_of (S.given input.old) (K.taken output.old) (S.faults input.old) (K.faults output.old) (S.ends input.old))
-        (link_of (S.given input.new) (K.taken output.new) (S.faults input.new) (K.faults output.new) (S.ends input.new)) }
+        (link_of (S.view input.old) (K.view output.old))
+        (link_of (S.view input.new) (K.view output.new)) }
 {
     served_is_a_talk();
     let mut clock = MemClock::new(Moment(0));
@@ -126,15 +126,15 @@ pub(crate) fn play_over<S: Source, K: Sink, P: Keeper>(
     requires few { length played.now < 2 ^ 16 }
     ensures plays { PlaysOrStops hub.old.hub.config played.now (past hub.old.hub)
         nodes.old result
-        (link_of (S.given input.old) (K.taken output.old) (S.faults input.old) (K.faults output.old) (S.ends input.old))
-        (link_of (S.given input.new) (K.taken output.new) (S.faults input.new) (K.faults output.new) (S.ends input.new))
+        (link_of (S.view input.old) (K.view output.old))
+        (link_of (S.view input.new) (K.view output.new))
         (past hub.new.hub) (P.disk hub.new.keeper) }
     ensures went { WentAlong P.disk hub.old hub.new }
     ensures runs { RunsSettled P.disk hub.old hub.new }
     ensures later { P.faults hub.old.keeper ≤ P.faults hub.new.keeper }
     ensures tells { TellsKept result (P.faults hub.old.keeper) (P.faults hub.new.keeper)
-        (link_of (S.given input.old) (K.taken output.old) (S.faults input.old) (K.faults output.old) (S.ends input.old))
-        (link_of (S.given input.new) (K.taken output.new) (S.faults input.new) (K.faults output.new) (S.ends input.new)) }
+        (link_of (S.view input.old) (K.view output.old))
+        (link_of (S.view input.new) (K.view output.new)) }
 {
     ways_join::<P>();
     if let Err(status) = settle_all(alloc, hub, left, nodes) {

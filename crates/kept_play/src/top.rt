@@ -33,12 +33,12 @@ fn open_and_play<S: Source, K: Sink, P: Keeper>(
     requires fit { AllFit played.now }
     requires few { length played.now < 2 ^ 16 }
     ensures kept { KeptOver P.disk config played.now result.0
-        (link_of (S.given input.old) (K.taken output.old) (S.faults input.old) (K.faults output.old) (S.ends input.old))
-        (link_of (S.given input.new) (K.taken output.new) (S.faults input.new) (K.faults output.new) (S.ends input.new))
+        (link_of (S.view input.old) (K.view output.old))
+        (link_of (S.view input.new) (K.view output.new))
         keeper result.1 }
     ensures tells { TellsKept result.0 (P.faults keeper) (P.faults result.1)
-        (link_of (S.given input.old) (K.taken output.old) (S.faults input.old) (K.faults output.old) (S.ends input.old))
-        (link_of (S.given input.new) (K.taken output.new) (S.faults input.new) (K.faults output.new) (S.ends input.new)) }
+        (link_of (S.view input.old) (K.view output.old))
+        (link_of (S.view input.new) (K.view output.new)) }
 {
     // The nodes of a hub in which these nodes have registered; that hub is let go.
     let Ok(crew) = crew_of(alloc, config, played) else {
@@ -72,12 +72,12 @@ pub fn kept_run<S: Source, K: Sink, P: Keeper>(
         (input.new ≡ input.old) × (output.new ≡ output.old) × (result.1 ≡ keeper) }
     ensures kept { (config : HubConfig) (nodes : List PlayNode) → Plays words.now config nodes →
         KeptOver P.disk config nodes result.0
-        (link_of (S.given input.old) (K.taken output.old) (S.faults input.old) (K.faults output.old) (S.ends input.old))
-        (link_of (S.given input.new) (K.taken output.new) (S.faults input.new) (K.faults output.new) (S.ends input.new))
+        (link_of (S.view input.old) (K.view output.old))
+        (link_of (S.view input.new) (K.view output.new))
         keeper result.1 }
     ensures keeper { result.0 ≡ 8 → Rose (P.faults keeper) (P.faults result.1) }
-    ensures read { result.0 ≡ 3 → Rose (S.faults input.old) (S.faults input.new) }
-    ensures write { result.0 ≡ 4 → Rose (K.faults output.old) (K.faults output.new) }
+    ensures read { result.0 ≡ 3 → Rose (S.view input.old).faults (S.view input.new).faults }
+    ensures write { result.0 ≡ 4 → Rose (K.view output.old).faults (K.view output.new).faults }
     ensures statuses { (result.0 ≡ 0)
         ⊎ (((2 ≤ result.0) × (result.0 < 7)) ⊎ ((7 < result.0) × (result.0 < 10))) }
 {

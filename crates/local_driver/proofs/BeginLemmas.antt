@@ -1,6 +1,6 @@
 -- What goes before a request, from its parts.
 use Rattle.std.proofs.Common.{◌≡◌, ◌≢◌, ℕ, ◌<◌, ◌≤◌, Bool, true, false, List, [], ◌∷◌, ◌++◌, refl, sym, ap, subst, ◌∙◌, arith, append_assoc, append-nil, inl, inr, zero, suc, ◌+◌, length, take, drop, get_or, add-one}
-use Rattle.std.specs.Prelude.{Option, None, Some, Result, Ok, Err, IfOk}
+use Rattle.std.specs.Prelude.{None, Some, Result, Ok, Err, IfOk, not}
 use Rattle.grid_types.specs.declared.entry.Entry.{Entry}
 use Rattle.grid_types.specs.Tokens.{Closing}
 use Rattle.grid_types.specs.Calls.{Call, Reply}
@@ -13,18 +13,20 @@ use Rattle.hub_core.specs.declared.answers.Beating.TheVariants as beating
 use Rattle.hub_core.specs.Replies.{beating_reply}
 use Rattle.hub_core.specs.HubView.{HubView, past, ServesLocally}
 use Rattle.hub_core.specs.Serves.{MayCall}
+use Rattle.node_client.specs.ClockSteps.{Ticks}
 use Rattle.node_client.specs.Asks.{quit_ask}
+use Rattle.node_client.specs.Quitting.{AsksToEnd, AsksOnce, asked as was_asked, not_asked as was_left}
 use Rattle.node_client.specs.Runs.{Exchanges}
-use Rattle.node_client.specs.Steps.{Step, Called, Exchanged}
+use Rattle.node_client.specs.Steps.{Step, Called, Exchanged, lacked}
 use Rattle.conn_script.specs.Begin.{asked, not_asked, Expires, none_idle, one_idle, ExpireLacks, expire_lacks, not_sent, later, Begins, swept, beaten, BeginLacks, sweep_lacks, behind_sweep, beat_lacks, behind_beat}
 use Rattle.local_driver.specs.declared.before.Idle.{Idle}
 use Rattle.local_driver.specs.declared.before.Idle.TheVariants as idle
 use Rattle.local_driver.specs.World.{World, Went, WentBy, world_of}
-use Rattle.local_driver.specs.Idles.{AsksOrLacks, AsksOnce, AsksAndFrees, EndsIdle, AllEnd, none_yet, one_more, Looked, EndsOne, live_count, is_no_lack, found_by}
+use Rattle.local_driver.specs.Idles.{AsksOrLacks, AsksAndFrees, EndsIdle, AllEnd, none_yet, one_more, Looked, EndsOne, live_count, found_by}
 use Rattle.own_hub.specs.Own.{HasRoom}
 use Rattle.local_driver.specs.Beginning.{Beaten, none_beaten, beats_one, BeginsOrLacks, ExpiresOrLacks}
 use Rattle.local_driver.proofs.LiveLemmas.{expire_lowers}
-use Rattle.local_driver.proofs.WayLemmas.{Ticks, Serves, serves_as, serves_not, serves_roomed, went_none, went_more, went_call, went_exchange}
+use Rattle.local_driver.proofs.WayLemmas.{Serves, serves_as, serves_not, serves_roomed, went_none, went_more, went_call, went_exchange}
 
 -- ---- one session
 
@@ -35,24 +37,14 @@ is_memory came = false
 differ : (came other : Came) → is_memory came ≡ false → is_memory other ≡ true → came ≢ other
 differ came other a b e = let never : false ≡ true = sym a ∙ ap is_memory e ∙ b in absurd cc
 
-asks_so : (c : Closing) (came : Came) → c.quit ≡ true → AsksOrLacks c (is_no_lack came) (Exchanged c.address (quit_ask c.session) came ∷ [])
+asks_so : (c : Closing) (came : Came) → c.quit ≡ true → AsksOrLacks c (not (lacked came)) (Exchanged c.address (quit_ask c.session) came ∷ [])
 asks_so c (Ok reply) q = asked (Ok reply) (differ (Ok reply) (Err fault.Memory) refl refl) q
 asks_so c (Err fault.Unreachable) q = asked (Err fault.Unreachable) (differ (Err fault.Unreachable) (Err fault.Memory) refl refl) q
 asks_so c (Err fault.Memory) q = (q, refl)
 
-module _ {N : Type 0} (gives : N → List ℕ → Ask → Came → N → Type 0) where
-  pub asks_none : (c : Closing) (n : N) → c.quit ≡ false → AsksOnce gives c n true n
-  unfolding Exchanges
-  asks_none c n q = ([], not_asked q, refl)
-
-  pub asks_once : (c : Closing) (address : List ℕ) (ask : Ask) (came : Came) (sent : Bool) (n n' : N) → c.quit ≡ true → address ≡ c.address → ask ≡ quit_ask c.session →
-      sent ≡ is_no_lack came → gives n address ask came n' → AsksOnce gives c n sent n'
-  unfolding Exchanges
-  asks_once c address ask came sent n n' q a k s gave = (
-    Exchanged c.address (quit_ask c.session) came ∷ [],
-    subst (λ (b : Bool). AsksOrLacks c b (Exchanged c.address (quit_ask c.session) came ∷ [])) (sym s) (asks_so c came q),
-    (n', subst (λ (z : Ask). gives n c.address z came n') k (subst (λ (z : List ℕ). gives n z ask came n') a gave), refl),
-  )
+asks_as : (c : Closing) (sent : Bool) (steps : List Step) → AsksToEnd c sent steps → AsksOrLacks c sent steps
+asks_as c _ _ (was_asked came q) = asks_so c came q
+asks_as c _ _ (was_left q) = not_asked q
 
 module _ {N C : Type 0} (gives : N → List ℕ → Ask → Came → N → Type 0) (tells : C → Tick → ℕ → C → Type 0) where
   went_asks : (c : Closing) (sent : Bool) (h : HubView) (n n' : N) (m : C) (time : ClockView) (steps : List Step) → AsksOrLacks c sent steps → Exchanges gives n steps n' →
@@ -76,9 +68,9 @@ module _ {N C : Type 0} (gives : N → List ℕ → Ask → Came → N → Type 
       WentBy gives tells (AsksAndFrees c sent) (world_of h n m time) (world_of k n' m' time')
   finished_so c sent h k n n' at m m' time time' asks serves ticks = record {
     steps = asks.0 ++ Called (Call.freed c) at (Some Reply.is_freed) ∷ [];
-    are = record { own = asks.0; at = at; asks = asks.1; steps_are = refl };
+    are = record { own = asks.0; at = at; asks = asks_as c sent asks.0 asks.1; steps_are = refl };
     went = went_more gives tells (world_of h n m time) (world_of h n' m time) (world_of k n' m' time') asks.0 (Called (Call.freed c) at (Some Reply.is_freed) ∷ [])
-        (went_asks c sent h n n' m time asks.0 asks.1 asks.2)
+        (went_asks c sent h n n' m time asks.0 (asks_as c sent asks.0 asks.1) asks.2)
         (went_call gives tells h k n' (Call.freed c) at (Some Reply.is_freed) m m' time time' (serves_as h (Call.freed c) at (Some Reply.is_freed) k serves) ticks);
   }
 

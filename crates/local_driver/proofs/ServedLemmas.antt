@@ -5,7 +5,7 @@ use Rattle.grid_types.specs.declared.config.HubConfig.{HubConfig}
 use Rattle.grid_types.specs.declared.entry.Entry.{Entry}
 use Rattle.grid_types.specs.Legal.{legal}
 use Rattle.grid_types.specs.Calls.{Call}
-use Rattle.grid_outside.specs.Told.{LinkView, Tick}
+use Rattle.grid_outside.specs.Told.{Tick, LinkView}
 use Rattle.grid_outside.specs.declared.exchange.Ask.{Ask}
 use Rattle.grid_outside.specs.Exchanges.{Came}
 use Rattle.hub_core.specs.HubView.{past}
@@ -24,23 +24,9 @@ use Rattle.hub_conn.specs.SpentLaws.{SpentAtEnd, SpentLaws, is_hub_spent}
 use Rattle.hub_conn.specs.Talk.{Cause, IsNew, end_cause, result_cause}
 use Rattle.hub_links.specs.Links.{RoseFor}
 use Rattle.local_driver.specs.World.{Answered}
-use Rattle.local_driver.specs.Served.{Blames, EndsSo, HasServed, Outside, ServedLocally}
+use Rattle.local_driver.specs.Served.{HasServed, Outside, ServedLocally}
 use Rattle.local_driver.specs.Serving.{EndedSo, HasAll, Serving, Turned}
 use Rattle.local_driver.proofs.OnwardLemmas.{onward_none}
-
-ends_so : (end : End) (l m : LinkView) → RoseFor (end_cause end) l m → EndsSo end l m
-ends_so ends.Closed l m rose = rose
-ends_so (ends.Cut at) l m rose = rose
-ends_so ends.Asked l m rose = rose
-ends_so (ends.Refused why at) l m rose = rose
-ends_so ends.Limit l m rose = rose
-ends_so ends.HubSpent l m rose = rose
-
-blames_so : (result : Result Served ConnFault) (l m : LinkView) → RoseFor (result_cause result) l m → Blames result l m
-blames_so (Ok served) l m rose = ends_so served.end l m rose
-blames_so (Err faults.Read) l m rose = rose
-blames_so (Err faults.Write) l m rose = rose
-blames_so (Err faults.Memory) l m rose = rose
 
 -- ---- this hub is never spent
 
@@ -97,6 +83,6 @@ module _ {N C : Type 0} (gives : N → List ℕ → Ask → Came → N → Type 
   served_locally result o p laws is_legal ended = record {
     served = ended.0;
     is_legal = is_legal;
-    blames = blames_so result o.link p.link ended.1;
+    blames = ended.1;
     unspent = told_unspent result o p laws ended.0;
   }

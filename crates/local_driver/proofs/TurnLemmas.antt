@@ -1,6 +1,6 @@
 -- What one turn does, by what was wanted.
 use Rattle.std.proofs.Common.{◌≡◌, ◌≢◌, ℕ, ◌<◌, ◌≤◌, Bool, true, false, List, [], ◌∷◌, ◌++◌, length, refl, sym, ap, subst, ◌∙◌, append-nil, length-append, arith}
-use Rattle.std.specs.Prelude.{Option, None, Some, Result, Err, is_some}
+use Rattle.std.specs.Prelude.{None, Some, Result, Err}
 use Rattle.std.specs.Borrow.{Bor}
 use Rattle.grid_types.specs.declared.entry.Entry.{Entry}
 use Rattle.grid_types.specs.Calls.{Call, Reply}
@@ -13,6 +13,7 @@ use Rattle.grid_outside.specs.Exchanges.{Came, ask_of}
 use Rattle.http_frames.specs.declared.writing.NodeRequest.{NodeRequest}
 use Rattle.request_laws.specs.Laws.{CallsKeepNewest, DeadlinesAreMoments, PollsAreEarly, StartsRunOut, is_enqueue}
 use Rattle.hub_core.specs.HubView.{HubView, past}
+use Rattle.node_client.specs.ClockSteps.{PausesFor, Ticks}
 use Rattle.node_client.specs.Held.{Token}
 use Rattle.node_client.specs.Steps.{Step, Called, Exchanged, Paused}
 use Rattle.conn_script.specs.Begin as begin
@@ -32,14 +33,14 @@ use Rattle.conn_script.specs.declared.wants.Want.TheVariants as wants
 use Rattle.conn_script.specs.Pauses.{ends_early, ends_early_behind, is_early_call}
 use Rattle.grid_types.specs.declared.config.HubConfig.{HubConfig}
 use Rattle.conn_script.specs.Work.{Outlook}
-use Rattle.conn_script.specs.Wanted.{Awaited, Fits, IsAwaited, Made, Readies, Shows, Wanted, bytes_in, call_of, call_step, call_tokens, count, is_spent, over, piece, reply_of, taken_of, to_ask, to_begin, to_call, to_pause, to_read, to_write}
+use Rattle.conn_script.specs.Wanted.{Fits, IsAwaited, Made, Shows, Wanted, bytes_in, call_of, call_step, call_tokens, count, is_spent, over, piece, reply_of, taken_of, to_ask, to_begin, to_call, to_pause, to_read, to_write}
 use Rattle.hub_conn.specs.declared.talk.Talk.{Talk}
 use Rattle.hub_conn.specs.CallLaws.{CallLaws}
 use Rattle.hub_conn.specs.WantLaws.{WantLaws}
-use Rattle.hub_conn.specs.Talk.{Cause, Feeds, HandsOut, IsHeld, Says, Stands, StandsForSome, Takes, awaited, blamed, cause_after, cause_of, held, leaves, result_cause, tokens}
+use Rattle.hub_conn.specs.Talk.{Cause, Feeds, HandsOut, Says, Stands, Takes, blamed, cause_after, cause_of, held, leaves, result_cause, tokens}
 use Rattle.hub_conn.specs.Work.{work}
 use Rattle.hub_links.specs.Links.{DoesLink, MovesSome, RoseFor}
-use Rattle.hub_links.specs.LinkLaws.{Adds, IsPlain, caused_on, plain_tokens, read_adds, write_adds}
+use Rattle.hub_links.specs.LinkLaws.{Adds, IsPlain, caused_on, few_bytes, plain_tokens, read_adds, write_adds}
 use Rattle.local_driver.specs.Calls as calls
 use Rattle.local_driver.specs.Calls.{MayMake}
 use Rattle.local_driver.specs.World.{Went, WentBy, World, world_of}
@@ -48,45 +49,10 @@ use Rattle.local_driver.specs.Serving.{HasAll, Serving, Turned, outlook_of}
 use Rattle.local_driver.proofs.LessLemmas.{PollsNewest, early_ahead, hub_lowers, no_more_same, outlook, one_last, pause_lowers, read_lowers, write_lowers}
 use Rattle.local_driver.proofs.OnwardLemmas.{onward_link, onward_more, onward_world}
 use Rattle.local_driver.proofs.TokenLemmas.{StaysWith, has_left, has_right, held_after, may_make}
-use Rattle.local_driver.proofs.WayLemmas.{PausesFor, Ticks, went_call, went_exchange, went_pause}
+use Rattle.local_driver.proofs.WayLemmas.{went_call, went_exchange, went_pause}
 
 never : false ≡ true → ⊥
 never e = cc
-
--- ---- what may be done
-
-pub read_awaits : (talk : Talk) (want : Want) (most : ℕ) (answer : Answer) → HandsOut talk want → want ≡ wants.Read most → IsAwaited answer (piece most) → IsAwaited answer (awaited talk)
-read_awaits talk want most answer hands is h = subst (λ (a : Awaited). IsAwaited answer a) (sym (subst (λ (y : Want). Readies y (awaited talk) (held talk)) is hands.readies)) h
-
-pub write_awaits : (talk : Talk) (want : Want) (bytes : Bor (List ℕ)) (answer : Answer) → HandsOut talk want → want ≡ wants.Write bytes → IsAwaited answer (count (length bytes.now)) →
-    IsAwaited answer (awaited talk)
-write_awaits talk want bytes answer hands is h = subst (λ (a : Awaited). IsAwaited answer a) (sym (subst (λ (y : Want). Readies y (awaited talk) (held talk)) is hands.readies)) h
-
-pub begin_awaits : (talk : Talk) (want : Want) → HandsOut talk want → want ≡ wants.Begin → IsAwaited told.Begun (awaited talk)
-begin_awaits talk want hands is = subst (λ (a : Awaited). IsAwaited told.Begun a) (sym (subst (λ (y : Want). Readies y (awaited talk) (held talk)) is hands.readies)) tt
-
-pub node_awaits : (talk : Talk) (want : Want) (address : List ℕ) (request : NodeRequest) (came : Came) → HandsOut talk want → want ≡ wants.Node address request → IsAwaited (told.Node came) (awaited talk)
-node_awaits talk want address request result hands is =
-    subst (λ (a : Awaited). IsAwaited (told.Node result) a) (sym (subst (λ (y : Want). Readies y (awaited talk) (held talk)) is hands.readies)) tt
-
-pub pause_awaits : (talk : Talk) (want : Want) (ms : ℕ) → HandsOut talk want → want ≡ wants.Pause ms → IsAwaited told.Paused (awaited talk)
-pause_awaits talk want ms hands is = subst (λ (y : Want). Readies y (awaited talk) (held talk)) is hands.readies
-
-pub call_held : (talk : Talk) (want : Want) → HandsOut talk want → want ≡ wants.Hub → IsHeld (held talk)
-call_held talk want hands is = ap is_some (subst (λ (y : Want). Readies y (awaited talk) (held talk)) is hands.readies).1
-
--- a piece is no longer than was wanted
-few_bytes : (answer : Answer) (most : ℕ) → IsAwaited answer (piece most) → length (bytes_in answer) ≤ most
-few_bytes (told.Bytes bytes) most h = h
-few_bytes told.EndOfInput most h = omega arith
-few_bytes told.ReadFailed most h = omega arith
-few_bytes (told.Wrote n) most h = absurd h
-few_bytes told.WriteFailed most h = absurd h
-few_bytes told.Begun most h = absurd h
-few_bytes (told.Hub answer) most h = absurd h
-few_bytes (told.Node came) most h = absurd h
-few_bytes told.Paused most h = absurd h
-few_bytes told.Gone most h = omega arith
 
 -- ---- no client is told to have left
 
@@ -158,20 +124,6 @@ module _ {N C : Type 0} (gives : N → List ℕ → Ask → Came → N → Type 
 
   stands_as : (old : Outside N C) (talk : Talk) (new : Outside N C) (w : Wanted) → (s : Serving gives tells own old talk new) → s.want ≡ w → Stands talk (Some own) w s.bytes s.steps s.written
   stands_as old talk new w s e = subst (λ (x : Wanted). Stands talk (Some own) x s.bytes s.steps s.written) e s.stands
-
-  pub for_some : (first : Outside N C) (talk : Talk) (o : Outside N C) → Serving gives tells own first talk o → StandsForSome talk
-  for_some first talk o s = (Some own, s.want, s.bytes, s.steps, s.written, s.stands)
-
-  pub read_some : (first : Outside N C) (talk : Talk) (o : Outside N C) (want : Want) (most : ℕ) → Serving gives tells own first talk o → HandsOut talk want → want ≡ wants.Read most → 0 < most
-  read_some first talk o want most s hands is = (says first talk o want (to_read most) s hands (subst (λ (y : Want). Shows y s.want) is (shown first talk o want s hands))).0
-
-  pub taken_for_some : (first : Outside N C) (talk mid : Talk) (o : Outside N C) (call : HubCall) → Serving gives tells own first talk o → Takes talk call mid → StandsForSome mid
-  taken_for_some first talk mid o call s takes = (Some own, s.want, s.bytes, s.steps, s.written, (takes.stands (Some own) s.want s.bytes s.steps s.written s.stands).1)
-
-  pub call_awaits : (first : Outside N C) (talk mid : Talk) (o : Outside N C) (call : HubCall) (answer : HubAnswer) (at : ℕ) (h k : HubView) → Serving gives tells own first talk o → Takes talk call mid →
-      calls.Made h (call_of call) at answer k → IsAwaited (told.Hub answer) (awaited mid)
-  call_awaits first talk mid o call answer at h k s takes made =
-      subst (λ (a : Awaited). IsAwaited (told.Hub answer) a) (sym (takes.waits (Some own) s.want s.bytes s.steps s.written s.stands)) made.fits
 
   -- ---- after it
 

@@ -1,15 +1,16 @@
 -- Steps that lead from one world to another, one behind the other.
-use Rattle.std.proofs.Common.{◌≡◌, ℕ, ◌≤◌, true, List, [], ◌∷◌, ◌++◌, refl, sym, ap, subst, ◌∙◌, arith, inl, inr}
+use Rattle.std.proofs.Common.{◌≡◌, ℕ, true, List, [], ◌∷◌, ◌++◌, refl, subst, ◌∙◌, arith, inl, inr, sym, ap}
 use Rattle.std.specs.Prelude.{Option, None, Some, IfSome}
 use Rattle.grid_types.specs.declared.config.HubConfig.{HubConfig}
 use Rattle.grid_types.specs.declared.entry.Entry.{Entry}
 use Rattle.grid_types.specs.Calls.{Call, Reply}
-use Rattle.grid_outside.specs.Told.{ClockView, Pauses, Tick, later_by, paused, to_tell, to_wait}
+use Rattle.grid_outside.specs.Told.{ClockView, Tick, Pauses, later_by, paused, to_tell, to_wait}
 use Rattle.grid_outside.specs.declared.exchange.Ask.{Ask}
 use Rattle.grid_outside.specs.Exchanges.{Came}
 use Rattle.hub_core.specs.Answers.{Answers}
 use Rattle.hub_core.specs.HubView.{HubView, past, ServesLocally}
-use Rattle.node_client.specs.Runs.{Clocked, Exchanges, KeepsTime, Still, Timed, pauses_after}
+use Rattle.node_client.specs.ClockSteps.{Ticks, PausesFor, keeps_time_none}
+use Rattle.node_client.specs.Runs.{Clocked, Exchanges, Still, Timed, pauses_after, KeepsTime}
 use Rattle.node_client.specs.RunLaws.{clocked_more, exchanges_more, keeps_time_more}
 use Rattle.node_client.specs.Steps.{Step, Called, Spent, Exchanged, Paused}
 use Rattle.local_driver.specs.World.{AnswersAt, Answered, World, Went, world_of, wants_room}
@@ -21,39 +22,6 @@ answered_more c F G H (Called call at reply ∷ steps) more p q = (p.0, p.1, ans
 answered_more c F G H (Spent call at ∷ steps) more p q = absurd p
 answered_more c F G H (Exchanged address ask came ∷ steps) more p q = answered_more c F G H steps more p q
 answered_more c F G H (Paused ms ∷ steps) more p q = answered_more c F G H steps more p q
-
--- a clock that was not asked kept time
-keeps_time_none : (time : ClockView) → KeepsTime time [] time
-unfolding Timed Still pauses_after
-keeps_time_none time = record { timed = omega arith; told = by_pauses time.pauses refl }
-  where
-    by_pauses : (o : Option Pauses) → time.pauses ≡ o → IfSome o (λ p. (time.pauses ≡ Some p) × (time.moment ≡ time.moment))
-    by_pauses None e = tt
-    by_pauses (Some p) e = (e, refl)
-
--- what the clock gave at a call that followed
-pub record Ticks {C : Type 0} (tells : C → Tick → ℕ → C → Type 0) (m : C) (at : ℕ) (m' : C) (time time' : ClockView) : Type 0 where
-  pub gave : tells m to_tell at m'
-  pub later : time.moment ≤ at
-  pub before : at ≤ time'.moment
-  pub told : IfSome time.pauses (λ p. (time'.pauses ≡ Some p) × ((at ≡ time.moment) × (time'.moment ≡ time.moment)))
-
-pub ticked : {C : Type 0} (tells : C → Tick → ℕ → C → Type 0) (m : C) (at : ℕ) (m' : C) (time time' : ClockView) → tells m to_tell at m' →
-    at ≡ time'.moment → time.moment ≤ time'.moment → IfSome time.pauses (λ p. (time'.pauses ≡ Some p) × (time'.moment ≡ time.moment)) → Ticks tells m at m' time time'
-ticked tells m at m' time time' gave is later still =
-    record { gave = gave; later = omega (arith, is, later); before = omega (arith, is); told = by_pauses time.pauses still }
-  where
-    by_pauses : (o : Option Pauses) → IfSome o (λ p. (time'.pauses ≡ Some p) × (time'.moment ≡ time.moment)) →
-        IfSome o (λ p. (time'.pauses ≡ Some p) × ((at ≡ time.moment) × (time'.moment ≡ time.moment)))
-    by_pauses None h = tt
-    by_pauses (Some p) h = (h.0, (is ∙ h.1, h.1))
-
--- a pause of the clock
-pub record PausesFor {C : Type 0} (tells : C → Tick → ℕ → C → Type 0) (ms : ℕ) (m m' : C) (time time' : ClockView) : Type 0 where
-  pub at : ℕ
-  pub gave : tells m (to_wait ms) at m'
-  pub long_enough : later_by time.moment ms ≤ time'.moment
-  pub told : IfSome time.pauses (λ p. (time'.pauses ≡ Some (paused ms p)) × (time'.moment ≡ later_by time.moment ms))
 
 -- how a call of the hub left it
 pub record Serves (old : HubView) (call : Call) (at : ℕ) (reply : Option Reply) (new : HubView) : Type 0 where

@@ -4,8 +4,9 @@ use Rattle.grid_types.specs.declared.entry.Entry.{Entry}
 use Rattle.grid_types.specs.declared.names.SlotId.{SlotId}
 use Rattle.grid_types.specs.Tokens.{ticket_of, reservation_of, is_good_ticket, is_good_reservation, is_good_closing}
 use Rattle.grid_types.specs.Calls.{Call, Reply}
+use Rattle.grid_types.specs.HandedIn.{hands_ticket, hands_reservation, hands_closing}
 use Rattle.hub_core.specs.HubView.{HubView, past}
-use Rattle.hub_core.specs.Serves.{GivesGood, MayCall, hands_ticket, hands_reservation, hands_closing}
+use Rattle.hub_core.specs.Serves.{GivesGood, MayCall}
 use Rattle.conn_script.specs.declared.wants.HubAnswer.{HubAnswer}
 use Rattle.conn_script.specs.Wanted.{FitsKind, Keeps, kind_of, reply_of, is_spent}
 use Rattle.own_hub.specs.Own.{Own, Goes, Stops}

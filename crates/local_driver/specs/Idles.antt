@@ -4,11 +4,8 @@ use Rattle.grid_types.specs.declared.entry.Entry.{Entry}
 use Rattle.grid_types.specs.Sessions.{live_bindings}
 use Rattle.grid_types.specs.Tokens.{Closing}
 use Rattle.grid_types.specs.Calls.{Call, Reply}
-use Rattle.grid_outside.specs.declared.exchange.Ask.{Ask}
 use Rattle.grid_outside.specs.declared.exchange.ExchangeFault.TheVariants.{Memory}
-use Rattle.grid_outside.specs.Exchanges.{Came}
 use Rattle.node_client.specs.Asks.{quit_ask}
-use Rattle.node_client.specs.Runs.{Exchanges}
 use Rattle.node_client.specs.Steps.{Step, Called, Exchanged}
 use Rattle.conn_script.specs.Begin.{AsksToEnd}
 use Rattle.local_driver.specs.declared.before.Idle.{Idle}
@@ -18,9 +15,6 @@ use Rattle.local_driver.specs.declared.before.Idle.TheVariants as idle
 abbrev pub AsksOrLacks : Closing → (sent : Bool) → List Step → Type 0
 AsksOrLacks c true steps = AsksToEnd c steps
 AsksOrLacks c false steps = (c.quit ≡ true) × (steps ≡ Exchanged c.address (quit_ask c.session) (Err Memory) ∷ [])
-
-abbrev pub AsksOnce : {N : Type 0} → (N → List ℕ → Ask → Came → N → Type 0) → Closing → N → Bool → N → Type 0
-AsksOnce gives c old sent new = (steps : List Step) × AsksOrLacks c sent steps × Exchanges gives old steps new
 
 -- and then the slot is freed
 pub record AsksAndFrees (c : Closing) (sent : Bool) (steps : List Step) : Type 0 where
@@ -41,10 +35,6 @@ pub record EndsIdle (sent : Bool) (steps : List Step) : Type 0 where
 pub data AllEnd : List Step → Type 0 where
   none_yet : AllEnd []
   one_more : (done own : List Step) → AllEnd done → EndsIdle true own → AllEnd (done ++ own)
-
-abbrev pub is_no_lack : Came → Bool
-is_no_lack (Err Memory) = false
-is_no_lack came = true
 
 abbrev pub found_by : Bool → Idle
 found_by true = idle.Ended

@@ -1,7 +1,6 @@
 -- A connection that was served by a hub of one thread: what was read, done and written, and how it ended.
-use Rattle.std.specs.Prelude.{◌≡◌, ◌≢◌, ℕ, ◌≤◌, true, List, length, Some, Result, Ok, Err, IfOk}
+use Rattle.std.specs.Prelude.{◌≡◌, ◌≢◌, ℕ, ◌≤◌, true, List, length, Some, Result, IfOk}
 use Rattle.grid_types.specs.Legal.{legal}
-use Rattle.grid_outside.specs.Counts.{Rose}
 use Rattle.grid_outside.specs.Told.{LinkView, Tick}
 use Rattle.grid_outside.specs.declared.exchange.Ask.{Ask}
 use Rattle.grid_outside.specs.Exchanges.{Came}
@@ -9,12 +8,12 @@ use Rattle.hub_core.specs.HubView.{past}
 use Rattle.node_client.specs.Steps.{Step}
 use Rattle.conn_script.specs.declared.wants.ConnFault.{ConnFault}
 use Rattle.conn_script.specs.declared.wants.ConnFault.TheVariants as faults
-use Rattle.conn_script.specs.declared.wants.End.{End}
 use Rattle.conn_script.specs.declared.wants.End.TheVariants as ends
 use Rattle.conn_script.specs.declared.wants.Served.{Served}
 use Rattle.conn_script.specs.declared.wants.TheConstants.{LIMIT}
 use Rattle.hub_conn.specs.Conversation.{Finished}
-use Rattle.hub_links.specs.Links.{Moved}
+use Rattle.hub_conn.specs.Talk.{result_cause}
+use Rattle.hub_links.specs.Links.{Moved, RoseFor}
 use Rattle.local_driver.specs.World.{Went, World}
 
 -- what a driver has outside of it: a hub with its nodes and a clock, and what a link tells
@@ -24,19 +23,6 @@ pub record Outside (N C : Type 0) : Type 0 where
 
 abbrev pub outside_of : {N C : Type 0} → World N C → LinkView → Outside N C
 outside_of world link = record { world = world; link = link }
-
--- an end of the input that is told was read; another end, and want of memory, left the end of the input unread
-abbrev pub EndsSo : End → (old new : LinkView) → Type 0
-EndsSo ends.Closed old new = Rose old.ends new.ends
-EndsSo (ends.Cut at) old new = Rose old.ends new.ends
-EndsSo end old new = new.ends ≡ old.ends
-
--- What the result blames has happened on the link: a read or a write that is told as failed did fail.
-abbrev pub Blames : Result Served ConnFault → (old new : LinkView) → Type 0
-Blames (Ok served) old new = EndsSo served.end old new
-Blames (Err faults.Read) old new = Rose old.read_faults new.read_faults
-Blames (Err faults.Write) old new = Rose old.write_faults new.write_faults
-Blames (Err faults.Memory) old new = new.ends ≡ old.ends
 
 module _ {N C : Type 0} (gives : N → List ℕ → Ask → Came → N → Type 0) (tells : C → Tick → ℕ → C → Type 0) where
   -- these bytes were read, these steps made and these bytes written, and nothing else was done outside
@@ -60,6 +46,6 @@ module _ {N C : Type 0} (gives : N → List ℕ → Ask → Came → N → Type 
     -- The history of the hub behind it is legal.
     pub is_legal : legal new.world.hub.config (past new.world.hub) ≡ true
     -- The fault or the end of the input that is told has happened on the link.
-    pub blames : Blames result old.link new.link
+    pub blames : RoseFor (result_cause result) old.link new.link
     -- It did not end because the hub was spent, since this hub never is.
     pub unspent : IfOk result (λ served. served.end ≢ ends.HubSpent)

@@ -1,17 +1,17 @@
 //! What goes before each request: own nodes give a sign of life, the hub sweeps, and idle sessions are ended.
-ghost use Rattle.std.specs.Prelude.{◌≡◌, ◌≤◌, [], IfOk, OnOk, OnErr};
+ghost use Rattle.std.specs.Prelude.{◌≡◌, ◌≤◌, [], IfOk, OnOk};
 ghost use Rattle.hub_core.specs.HubView.{past};
 ghost use Rattle.hub_core.specs.Serves.{MayCall};
 ghost use Rattle.grid_types.specs.Calls.{Call};
 ghost use Rattle.local_driver.specs.World.{world_of, WentBy};
-ghost use Rattle.local_driver.specs.Idles.{AsksOnce, AsksAndFrees, Looked, EndsOne, live_count, is_no_lack, found_by};
+ghost use Rattle.local_driver.specs.Idles.{AsksAndFrees, Looked, EndsOne, live_count, found_by};
 ghost use Rattle.local_driver.specs.Beginning.{BeginsOrLacks, ExpiresOrLacks};
 ghost use Rattle.own_hub.specs.Own.{GoesOrStops};
 
-use grid_outside::{Clock, ExchangeFault, NodeLink, Reply};
+use grid_outside::{Clock, NodeLink};
 use grid_types::NodeNo;
 use hub_core::{Closing, Expiring};
-use node_client::{SessionPath, quit_request};
+use node_client::ask_to_end;
 use own_hub::OwnHub;
 use std::alloc::Global;
 
@@ -24,28 +24,6 @@ enum Idle {
     Over,
     /// Out of memory, for the call or for the request to the node.
     Lacks,
-}
-
-fn was_sent(came: &Result<Reply, ExchangeFault>) -> bool
-    ensures { result ≡ is_no_lack came.now }
-{
-    match came {
-        Err(ExchangeFault::Memory) => false,
-        Err(ExchangeFault::Unreachable) => true,
-        Ok(_) => true,
-    }
-}
-
-/// Asks the node of the closing to end its session, where that is called for. False is out of memory: it was not asked.
-fn ask_to_end<N: NodeLink>(alloc: Global, closing: &Closing, nodes: &mut N) -> bool
-    ensures { AsksOnce N.gives closing.now nodes.old result nodes.new }
-{
-    if closing.quit() {
-        let path = SessionPath::of(&closing.session());
-        let came = nodes.exchange(alloc, &closing.address(), &quit_request(path.as_bytes()));
-        return was_sent(&came);
-    }
-    true
 }
 
 /// Has the session of the closing ended at its node, and frees its slot. False is out of memory: the node was not asked.

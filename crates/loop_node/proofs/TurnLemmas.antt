@@ -19,8 +19,9 @@ use Rattle.loop_node.specs.Sessions.{Node}
 use Rattle.loop_node.specs.Replies.{Answers}
 use Rattle.loop_node.specs.Serving.{ask_in, reply_bytes, go_on, response_to, Serves, Waits, refusal, LastWords, Served, Spelled, IsWaiting, Words, going_on, refusing, CutShort}
 use Rattle.grid_outside.specs.Told.{LinkView}
+use Rattle.grid_outside.specs.StreamLaws.{rose_later}
 use Rattle.loop_node.specs.Connections.{Moved, IsLast, ServedOver, BrokenOff, ReadsOn, SpellsOn, Serving, ServingOver, Responds, further, AfterTurn, HasRead, HasEndedHere, IsRead, WroteFront, StopsAt, unanswered, answered, ReadSome, TellsFront, work}
-use Rattle.loop_node.proofs.WritingLemmas.{moved_none, moved_wrote, moved_read, rose_later}
+use Rattle.loop_node.proofs.WritingLemmas.{moved_none, moved_wrote, moved_read}
 
 -- ---- heads
 

@@ -1,5 +1,5 @@
 -- What was written, and what a link tells.
-use Rattle.std.proofs.Common.{◌≡◌, ℕ, ◌+◌, ◌-◌, ◌≤◌, inl, inr, Bool, List, [], ◌++◌, length, take, drop, codes, decimal, Option, Some, None, Result, Ok, Err, IfOk, refl, sym, ap, subst, ◌∙◌, append_assoc, append-nil, arith}
+use Rattle.std.proofs.Common.{◌≡◌, ℕ, ◌+◌, ◌-◌, Bool, List, [], ◌++◌, length, take, drop, codes, decimal, Option, Some, None, Result, Ok, Err, IfOk, refl, sym, ap, subst, ◌∙◌, append-nil, arith}
 use Rattle.std.specs.Prelude.{if◌then◌else◌}
 use Rattle.std.specs.Borrow.{Bor}
 use Rattle.std.proofs.Math.Seq.{take-add}
@@ -9,18 +9,11 @@ use Rattle.http_frames.specs.Writing.{optional_line, response_bytes, has_no_body
 use Rattle.grid_outside.specs.Counts.{Rose}
 use Rattle.grid_outside.specs.Told.{Gains, LinkView}
 use Rattle.grid_outside.specs.Exchanges.{lent}
+use Rattle.grid_outside.specs.StreamLaws.{gains_more, gains_none}
 use Rattle.loop_node.specs.Serving.{value_line, reply_bytes}
 use Rattle.loop_node.specs.Connections.{Later, Moved, WroteFront}
 
 -- ---- what is told gains piece by piece
-
-pub gains_none : (told : Option (List ℕ)) → Gains told told []
-gains_none None = tt
-gains_none (Some xs) = ap Some (sym (append-nil xs))
-
-pub gains_more : (a b c : Option (List ℕ)) (xs ys : List ℕ) → Gains a b xs → Gains b c ys → Gains a c (xs ++ ys)
-gains_more None b c xs ys p q = tt
-gains_more (Some zs) b c xs ys p q = (subst (λ t. Gains t c ys) p q) ∙ ap Some (append_assoc zs xs ys)
 
 take_next : (done n : ℕ) (bytes : List ℕ) → take (done + n) bytes ≡ take done bytes ++ take n (take (length bytes - done) (drop done bytes))
 take_next done n bytes = grind (arith, common_steps, take-add done n bytes)
@@ -41,10 +34,6 @@ later_more a b c p q = record {
   reads = let x = p.reads in let y = q.reads in omega arith;
   writes = let x = p.writes in let y = q.writes in omega arith;
 }
-
-pub rose_later : (a b c : ℕ) → a ≤ b → Rose b c → Rose a c
-rose_later a b c le (inl lt) = inl (omega arith)
-rose_later a b c le (inr most) = inr most
 
 -- ---- the link
 

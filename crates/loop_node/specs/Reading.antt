@@ -1,15 +1,14 @@
 -- What the body of a request says to the node.
 use Rattle.std.specs.Prelude.{ℕ, List, length, Option, Some, None, if◌then◌else◌, nat_le, codes, IsUtf8}
 use Rattle.grid_types.specs.Capabilities.{json_string}
-use Rattle.json_spans.specs.Grammar.{Tree, word, number, text, empty_list, list, empty_object, object}
-use Rattle.json_spans.specs.Characters.{meaning}
+use Rattle.json_spans.specs.Grammar.{Tree, object}
 use Rattle.json_spans.specs.Inside.{Pair}
 use Rattle.json_spans.specs.Parts.{IsText}
 use Rattle.json_spans.specs.Cut.{Refuses}
 use Rattle.json_spans.specs.declared.fault.JsonFault.{JsonFault}
 use Rattle.loop_node.specs.declared.reading.TheConstants.{MAX_URL_JSON}
 use Rattle.caps_merge.specs.Placed.{Placed, placed, Member, object_members}
-use Rattle.caps_merge.specs.Reading.{members_fault, value_named}
+use Rattle.caps_merge.specs.Reading.{members_fault, text_where, value_named}
 use Rattle.caps_merge.specs.Shown.{ShowMembers}
 
 abbrev pub unless_fault : Option JsonFault → List Member → Option (List Member)
@@ -37,20 +36,6 @@ ShowsObject None (Some members) = ⊥
 ShowsObject (Some pairs) None = ⊥
 ShowsObject (Some pairs) (Some members) = ShowMembers pairs members
 
-abbrev pub string_in : Tree → Option (List ℕ)
-string_in (word s) = None
-string_in (number s) = None
-string_in (text cs) = Some (meaning cs)
-string_in (empty_list w) = None
-string_in (list is) = None
-string_in (empty_object w) = None
-string_in (object ms) = None
-
--- the characters of a value that is a string
-abbrev pub string_where : Option Placed → Option (List ℕ)
-string_where None = None
-string_where (Some v) = string_in v.tree
-
 -- a url whose JSON is short enough for a reply
 abbrev pub fitting : Option (List ℕ) → Option (List ℕ)
 fitting None = None
@@ -59,4 +44,4 @@ fitting (Some url) = if nat_le (length (json_string url)) MAX_URL_JSON then Some
 -- the url that a body asks for
 abbrev pub url_asked : Option (List Member) → Option (List ℕ)
 url_asked None = None
-url_asked (Some members) = fitting (string_where (value_named (codes "url") members))
+url_asked (Some members) = fitting (text_where (value_named (codes "url") members))

@@ -2,12 +2,12 @@
 ghost use Rattle.std.specs.Prelude.{◌≡◌, List, Option, IfOk};
 ghost use Rattle.json_spans.specs.Span.{part_of};
 ghost use Rattle.caps_merge.specs.Placed.{Placed, Member};
-ghost use Rattle.caps_merge.specs.Shown.{Shows, IsShown, IsFoundShown, ShowsFound};
-ghost use Rattle.loop_node.specs.Reading.{object_of, ReadsObject, ShowsObject, string_where, fitting, url_asked};
+ghost use Rattle.caps_merge.specs.Shown.{Shows, IsShown};
+ghost use Rattle.loop_node.specs.Reading.{object_of, ReadsObject, ShowsObject, fitting, url_asked};
 
-use caps_merge::{object_members, value_named};
+use caps_merge::{object_members, text_where, value_named};
 use grid_types::{NoMemory, Text};
-use json_spans::{JsonFault, Kind, MemberList, Span, cut, text};
+use json_spans::{JsonFault, MemberList, Span, cut};
 use std::alloc::Global;
 use wd_bodies::json_text;
 
@@ -38,21 +38,6 @@ pub(crate) fn object_of(alloc: Global, body: &[u8]) -> Result<Option<MemberList<
     }
 }
 
-/// The characters of a value that is a string.
-fn string_where(alloc: Global, found: Option<Span<'_>>) -> Result<Option<Text>, NoMemory>
-    requires { IsFoundShown found }
-    ensures { IfOk result (λ t. (o : Option Placed) → ShowsFound found.entry o →
-        t ≡ string_where o) }
-{
-    match found {
-        Some(value) => match value.kind() {
-            Kind::Text => Ok(Some(text(alloc, value)?)),
-            _ => Ok(None),
-        },
-        None => Ok(None),
-    }
-}
-
 /// The url, where its JSON is short enough for a reply.
 fn fitting(alloc: Global, url: Option<Text>) -> Result<Option<Text>, NoMemory>
     ensures { IfOk result (λ t. t ≡ fitting url) }
@@ -78,7 +63,7 @@ pub(crate) fn url_asked(alloc: Global, body: &[u8]) -> Result<Option<Text>, NoMe
     match object_of(alloc, body) {
         Ok(Some(members)) => {
             let found = value_named(alloc, members.items(), "url")?;
-            let url = string_where(alloc, found)?;
+            let url = text_where(alloc, found)?;
             fitting(alloc, url)
         }
         Ok(None) => Ok(None),

@@ -3,3 +3,4 @@ mod StandLemmas
 mod HandLemmas
 mod ReplyLemmas
 mod MemberLemmas
+mod QuitLemmas

@@ -8,6 +8,9 @@ pub mod Held
 pub mod Spending
 pub mod Runs
 pub mod RunLaws
+pub mod ClockSteps
 pub mod Places
 pub mod Carrying
 pub mod StandLaws
+pub mod TurnLaws
+pub mod Quitting

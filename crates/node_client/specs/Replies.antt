@@ -3,13 +3,12 @@
 use Rattle.std.specs.Prelude.{ℕ, Bool, true, false, ◌==◌, List, [], length, map, Option, None, Some, codes, IsUtf8}
 use Rattle.grid_types.specs.declared.capabilities.Cap.{Cap}
 use Rattle.grid_types.specs.Names.{is_session_name}
-use Rattle.json_spans.specs.Grammar.{Tree, word, number, text, empty_list, list, empty_object, object}
-use Rattle.json_spans.specs.Characters.{meaning}
+use Rattle.json_spans.specs.Grammar.{Tree, object}
 use Rattle.json_spans.specs.Parts.{IsText}
 use Rattle.json_spans.specs.Cut.{Refuses}
 use Rattle.json_spans.specs.declared.fault.JsonFault.{JsonFault}
 use Rattle.caps_merge.specs.Placed.{Placed, placed, Member, object_members}
-use Rattle.caps_merge.specs.Reading.{members_fault, value_named}
+use Rattle.caps_merge.specs.Reading.{members_fault, text_where, value_named}
 use Rattle.caps_merge.specs.Merging.{cap_of}
 
 -- a session that was started, with its capabilities; a message; or neither
@@ -35,20 +34,6 @@ abbrev pub members_where : Option Placed → List Member
 members_where None = []
 members_where (Some v) = members_of v
 
-abbrev pub string_in : Tree → Option (List ℕ)
-string_in (word s) = None
-string_in (number s) = None
-string_in (text cs) = Some (meaning cs)
-string_in (empty_list w) = None
-string_in (list is) = None
-string_in (empty_object w) = None
-string_in (object ms) = None
-
--- the characters of a value that is a string
-abbrev pub string_where : Option Placed → Option (List ℕ)
-string_where None = None
-string_where (Some v) = string_in v.tree
-
 abbrev pub if_session_name : Bool → List ℕ → Option (List ℕ)
 if_session_name true name = Some name
 if_session_name false name = None
@@ -68,7 +53,7 @@ message_said (Some message) = refused message
 
 -- by the members of `value`, and whether they may name a session
 abbrev pub named_or : Option (List ℕ) → List Member → Said
-named_or None ms = message_said (string_where (value_named (codes "message") ms))
+named_or None ms = message_said (text_where (value_named (codes "message") ms))
 named_or (Some session) ms =
     created session (caps_of (members_where (value_named (codes "capabilities") ms)))
 
@@ -79,7 +64,7 @@ if_ok false session = None
 -- what the members of `value` say in a reply of this status
 unfoldable pub said_by : ℕ → List Member → Said
 said_by status ms =
-    named_or (if_ok (status == 200) (session_in (string_where (value_named (codes "sessionId") ms)))) ms
+    named_or (if_ok (status == 200) (session_in (text_where (value_named (codes "sessionId") ms)))) ms
 
 -- what the value of a whole body says
 abbrev pub said_in : ℕ → Placed → Said

@@ -16,6 +16,7 @@
 mod carry;
 mod laws;
 mod path;
+mod quitting;
 mod reply;
 mod requests;
 mod wants;
@@ -25,6 +26,7 @@ pub use laws::{
     replies_say_one_thing, starts_are_short, starts_spend_all, starts_stand_by_their_wants,
 };
 pub use path::SessionPath;
+pub use quitting::{ask_to_end, was_sent};
 pub use reply::session_of;
 pub use requests::{quit_request, start_request};
 pub use wants::{CarryAnswer, CarryEnd, CarryWant};

@@ -4,10 +4,9 @@ ghost use Rattle.std.specs.List.{join_with_byte};
 ghost use Rattle.grid_types.specs.Capabilities.{json_string, written_caps};
 ghost use Rattle.node_signs.specs.Signs.{beat_bytes, comma, registration_bytes, written_drain, written_group, written_names};
 
-use grid_types::{Bytes, Caps, NoMemory, NodeAddress, Registration, SlotGroup};
+use grid_types::{Bytes, Caps, NoMemory, Registration, SlotGroup};
 use std::alloc::Global;
 use std::fmt::Write;
-use std::str::from_utf8;
 use wd_bodies::{caps_text, json_text};
 
 /// The body by which a node registers.
@@ -39,7 +38,7 @@ fn push_names(alloc: Global, text: &mut String, node: &Registration) -> Result<(
 {
     push_json(alloc, text, node.name.as_str())?;
     text.push_str(",\"address\":")?;
-    push_json(alloc, text, address_text(&node.address))?;
+    push_json(alloc, text, node.address.as_str())?;
     write!(text, ",\"maxSessions\":{}", node.max_sessions)?;
     Ok(())
 }
@@ -50,16 +49,6 @@ fn push_json(alloc: Global, text: &mut String, content: &str) -> Result<(), NoMe
 {
     text.push_str(json_text(alloc, content)?.as_str())?;
     Ok(())
-}
-
-/// An address is of visible ASCII characters.
-fn address_text(address: &NodeAddress) -> &str
-    ensures { result.now ≡ address.now }
-{
-    match from_utf8(address.as_bytes()) {
-        Ok(text) => text,
-        Err(_) => unreachable!(),
-    }
 }
 
 fn push_drain(text: &mut String, drain_after: Option<u32>) -> Result<(), NoMemory>

@@ -1,38 +1,8 @@
 //! The number of a node in the answer to its registration.
-ghost use Rattle.std.specs.Prelude.{◌≡◌, ◌≢◌, ◌<◌, ◌^◌, ◌++◌, List, ℕ, MatchOption, decimal};
+ghost use Rattle.std.specs.Prelude.{◌≡◌, ◌≢◌, ◌<◌, ◌^◌, ◌++◌, List, ℕ, MatchOption};
 ghost use Rattle.node_signs.specs.Signs.{registered_bytes};
 
-use grid_types::NodeNo;
-use itoa::Buffer;
-use std::str::from_utf8;
-
-/// The number that decimal digits write.
-fn number_of(digits: &[u8]) -> Option<NodeNo>
-    ensures { MatchOption result ((n : ℕ) → n < 2 ^ 32 → ¬ (digits.now ≡ decimal n))
-        (λ n. digits.now ≡ decimal n) }
-{
-    match from_utf8(digits) {
-        Ok(text) => number_in(text),
-        Err(_) => None,
-    }
-}
-
-fn number_in(text: &str) -> Option<NodeNo>
-    ensures { MatchOption result ((n : ℕ) → n < 2 ^ 32 → ¬ (text.now ≡ decimal n))
-        (λ n. text.now ≡ decimal n) }
-{
-    match text.parse::<u32>() {
-        Ok(number) => {
-            let mut buffer = Buffer::new();
-            if buffer.format(number) == text {
-                Some(number)
-            } else {
-                None
-            }
-        }
-        Err(_) => None,
-    }
-}
+use grid_types::{NodeNo, node_number};
 
 /// What stands between the two, if the bytes begin and end with them.
 fn between<'a>(bytes: &'a [u8], before: &[u8], behind: &[u8]) -> Option<&'a [u8]>
@@ -51,7 +21,7 @@ pub fn number_told(body: &[u8]) -> Option<NodeNo>
         (λ n. body.now ≡ registered_bytes n) }
 {
     match between(body, b"{\"value\":{\"node\":", b"}}") {
-        Some(digits) => number_of(digits),
+        Some(digits) => node_number(digits),
         None => None,
     }
 }

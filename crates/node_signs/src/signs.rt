@@ -73,7 +73,7 @@ fn posted<'a, N: NodeLink>(
     nodes.exchange(alloc, hub, &request)
 }
 
-/// Asks the hub to register a node with this body: its number there, or None where the hub gave none. Err is want of
+/// Asks the hub to register a node with this body: its number there, or None where the hub gave none. Err is out of
 /// memory, in which the hub was not asked.
 pub fn register<N: NodeLink>(
     alloc: Global,

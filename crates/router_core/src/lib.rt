@@ -6,17 +6,13 @@
 //!   that each part be proved UTF-8.
 //! - A `Router` is a struct around the table of `matchit`, with the fact that the table has its rows as a ghost
 //!   field. It is out of memory only where it is made.
-//! - `node_number` writes the parsed number again and compares, so signs and leading zeros name no node, and "0" is
-//!   the number 0.
 #![tactic(auto)]
 
-mod number;
 mod place;
 mod routed;
 mod router;
 mod table;
 mod target;
 
-pub use number::node_number;
 pub use routed::{RouteFault, Routed};
 pub use router::{Router, route};

@@ -1,8 +1,8 @@
 -- The options of the program that puts a driver behind a hub.
-use Rattle.std.specs.Prelude.{◌≡◌, ◌&&◌, ◌||◌, ◌==◌, ℕ, Bool, List, [], length, codes, false, is_some, nat_le, true}
-use Rattle.std.specs.Char.{is_ascii_alphanumeric}
+use Rattle.std.specs.Prelude.{◌≡◌, ◌&&◌, ℕ, Bool, List, [], length, codes, false, is_some, nat_le, true}
 use Rattle.std.specs.List.{list_all}
 use Rattle.clap.specs.Words.{App, IsAmong, Row, Text, all_of, fault_of, first_of, kind_of, matches_of, with_rule}
+use Rattle.grid_types.specs.Names.{is_node_name_byte}
 use Rattle.grid_types.specs.declared.limits.TheConstants.{MOST_NAME_BYTES, MOST_SLOTS}
 use Rattle.server_words.specs.Addresses.{bare_address, is_reachable}
 use Rattle.server_words.specs.Options.{IsTaken, all_or_none, bare, number_of, number_or, switch_of, text_of, text_or, texts_of, truth_or}
@@ -65,20 +65,13 @@ attach_told rows = record {
 abbrev pub attach_said : List Text → AttachWords
 attach_said words = attach_told (matches_of attach_command words)
 
--- a letter, a digit, '-', '_' or '.'
-abbrev pub is_label_byte : ℕ → Bool
-is_label_byte b = is_ascii_alphanumeric b || b == 45 || b == 95 || b == 46
-
-abbrev pub are_label_bytes : List ℕ → Bool
-are_label_bytes bytes = list_all is_label_byte bytes
-
 -- no longer than a node's name may be
 abbrev pub is_short : List ℕ → Bool
 is_short bytes = nat_le (length bytes) MOST_NAME_BYTES
 
 -- a node's name as a hub takes it: 1 to 64 letters, digits, '-', '_' and '.'
 abbrev pub is_label : List ℕ → Bool
-is_label bytes = nat_le 1 (length bytes) && is_short bytes && are_label_bytes bytes
+is_label bytes = nat_le 1 (length bytes) && is_short bytes && list_all is_node_name_byte bytes
 
 abbrev pub are_short : List ℕ → List ℕ → List ℕ → Bool
 are_short browser version platform = is_short browser && is_short version && is_short platform

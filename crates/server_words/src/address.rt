@@ -1,10 +1,9 @@
 //! The address of a hub or a driver, as it may be written.
 ghost use Rattle.std.specs.Prelude.{◌≡◌, ◌==◌, ◌-◌, ◌≤◌, IfNone, IfSome, false, option_map, true};
-ghost use Rattle.std.specs.Char.{is_ascii_digit};
-ghost use Rattle.std.specs.List.{list_all, list_any};
+ghost use Rattle.std.specs.List.{list_any};
 ghost use Rattle.server_words.specs.Addresses.{bare_address, behind, ends_in_slash, has_port, is_host_and_port, is_port, is_reachable, port_number, port_text, without_scheme, without_slash};
 
-use grid_types::NodeAddress;
+use grid_types::{NodeAddress, are_digits};
 
 /// What may stand in front of an address.
 const SCHEME: &[u8] = b"http://";
@@ -61,12 +60,6 @@ fn port_text(text: &[u8]) -> Option<&[u8]>
             None => if *byte == b':' { Some(rest) } else { None },
         },
     }
-}
-
-fn are_digits(text: &[u8]) -> bool
-    ensures { result ≡ list_all is_ascii_digit text.now }
-{
-    text.iter().all(|b| b.is_ascii_digit())
 }
 
 /// What a digit writes.

@@ -2,7 +2,7 @@
 ghost use Rattle.std.specs.Prelude.{◌≡◌, ◌≢◌, ◌⊎◌, IfErr, IfOk, Some, is_some, map, true};
 ghost use Rattle.clap.specs.Words.{app_of, found_of, is_simple_and_free, kind_of, matches_of, rows_of};
 ghost use Rattle.server_words.specs.Addresses.{bare_address, is_reachable};
-ghost use Rattle.server_words.specs.AttachOptions.{FitsAttach, HasCause, HasValueCause, HasWordCause, TextsFit, are_label_bytes, are_short, attach_command, attach_driver, attach_hub, attach_own, attach_said, attach_told, is_label, is_short};
+ghost use Rattle.server_words.specs.AttachOptions.{FitsAttach, HasCause, HasValueCause, HasWordCause, TextsFit, are_short, attach_command, attach_driver, attach_hub, attach_own, attach_said, attach_told, is_label, is_short};
 ghost use Rattle.server_words.specs.Options.{IsTaken, NumbersFit};
 ghost use Rattle.server_words.specs.OwnCapabilities.{own_caps};
 ghost use Rattle.server_words.specs.declared.attach.AttachFault.TheVariants as fault;
@@ -15,7 +15,9 @@ use crate::options::{
 use crate::own_capabilities::put_own;
 use clap::error::ErrorKind;
 use clap::{ArgMatches, Command, Error};
-use grid_types::{Caps, MOST_NAME_BYTES, MOST_SLOTS, NoMemory, NodeAddress, Text};
+use grid_types::{
+    Caps, MOST_NAME_BYTES, MOST_SLOTS, NoMemory, NodeAddress, Text, are_node_name_bytes,
+};
 use std::alloc::{AllocError, Global};
 use std::fmt;
 
@@ -136,12 +138,6 @@ fn command<'a>(alloc: Global) -> Result<Command<'a>, AllocError>
     Ok(nine)
 }
 
-fn are_label_bytes(bytes: &[u8]) -> bool
-    ensures { result ≡ are_label_bytes bytes.now }
-{
-    bytes.iter().all(|b| b.is_ascii_alphanumeric() || *b == b'-' || *b == b'_' || *b == b'.')
-}
-
 /// Whether the text is no longer than a node's name may be.
 fn is_short(text: &str) -> bool
     ensures { result ≡ is_short text.now }
@@ -153,7 +149,7 @@ fn is_short(text: &str) -> bool
 fn is_label(text: &str) -> bool
     ensures { result ≡ is_label text.now }
 {
-    !text.is_empty() && is_short(text) && are_label_bytes(text.as_bytes())
+    !text.is_empty() && is_short(text) && are_node_name_bytes(text.as_bytes())
 }
 
 fn are_short(browser: &str, version: &str, platform: &str) -> bool

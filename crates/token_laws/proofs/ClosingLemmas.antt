@@ -27,8 +27,9 @@ use Rattle.grid_types.specs.Choice.{Assignment, chosen}
 use Rattle.grid_types.specs.Permitted.{is_named, is_caller, is_last}
 use Rattle.grid_types.specs.Tokens.{Closing, is_good_closing, closing_of}
 use Rattle.grid_types.specs.Calls.{Call, Reply}
+use Rattle.grid_types.specs.HandedIn.{hands_closing}
 use Rattle.grid_types.specs.HubAnswers.{Answer, says, makes, moment, register_by, drained, enqueued, polled, polled_open, withdrawn, reserves, dispatched, bound_by, refused_reply, refusal_of, drain_after_bind, failed, at_binding, is_binding, closes, expired_by, idle_bindings, lapses, lapsed_nodes, suspicions, silent_nodes, time_outs, overdue_requests, removals, drained_nodes, swept, cleared, hub, answer, after_call}
-use Rattle.token_laws.specs.Gives.{gives_closing, hands_closing, ClosingsComeFromReplies}
+use Rattle.token_laws.specs.Gives.{gives_closing, ClosingsComeFromReplies}
 
 -- a change that leaves some slot closing
 abbrev may_close : Change → Bool

@@ -23,8 +23,9 @@ use Rattle.grid_types.specs.Choice.{Assignment, chosen}
 use Rattle.grid_types.specs.Permitted.{is_named, is_caller}
 use Rattle.grid_types.specs.Tokens.{is_good_reservation, ticket_of}
 use Rattle.grid_types.specs.Calls.{Call, Reply}
+use Rattle.grid_types.specs.HandedIn.{hands_reservation}
 use Rattle.grid_types.specs.HubAnswers.{Answer, says, moment, makes, reserved, register_by, drained, enqueued, polled, polled_open, withdrawn, reserves, dispatched, bound_by, refusal_of, drain_after_bind, failed, at_binding, is_binding, closes, expired_by, idle_bindings, lapses, lapsed_nodes, suspicions, silent_nodes, time_outs, overdue_requests, removals, drained_nodes, swept, cleared, hub, answer, after_call}
-use Rattle.token_laws.specs.Gives.{gives_reservation, hands_reservation, ReservationsComeFromReplies}
+use Rattle.token_laws.specs.Gives.{gives_reservation, ReservationsComeFromReplies}
 
 -- a change that reserves the slot for the request
 abbrev reserves_it : ℕ → SlotId → Change → Bool

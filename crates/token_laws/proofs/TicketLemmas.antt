@@ -21,8 +21,9 @@ use Rattle.grid_types.specs.Choice.{Assignment, chosen}
 use Rattle.grid_types.specs.Permitted.{is_named}
 use Rattle.grid_types.specs.Tokens.{is_good_ticket, ticket_of}
 use Rattle.grid_types.specs.Calls.{Call, Reply}
+use Rattle.grid_types.specs.HandedIn.{hands_ticket}
 use Rattle.grid_types.specs.HubAnswers.{Answer, says, moment, register_by, drained, enqueued, polled, polled_open, withdrawn, reserves, dispatched, bound_by, refusal_of, drain_after_bind, failed, at_binding, is_binding, closes, expired_by, idle_bindings, lapses, lapsed_nodes, suspicions, silent_nodes, time_outs, overdue_requests, removals, drained_nodes, swept, cleared, hub, answer, after_call}
-use Rattle.token_laws.specs.Gives.{gives_ticket, hands_ticket, TicketsComeFromReplies}
+use Rattle.token_laws.specs.Gives.{gives_ticket, TicketsComeFromReplies}
 
 -- a change that queues the request
 abbrev queues : ℕ → Change → Bool

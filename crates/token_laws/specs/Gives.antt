@@ -7,26 +7,8 @@ use Rattle.grid_types.specs.Legal.{legal}
 use Rattle.grid_types.specs.Slots.{slot_eq}
 use Rattle.grid_types.specs.Tokens.{is_good_ticket, is_good_reservation, is_good_closing}
 use Rattle.grid_types.specs.Calls.{Call, Reply}
+use Rattle.grid_types.specs.HandedIn.{hands_ticket, hands_reservation, hands_closing}
 use Rattle.grid_types.specs.HubAnswers.{hub, after_call}
-
--- the call is handed a ticket of the request
-abbrev pub hands_ticket : Call → ℕ → Bool
-hands_ticket (Call.poll ticket) request = nat_eq ticket.request request
-hands_ticket (Call.withdraw ticket) request = nat_eq ticket.request request
-hands_ticket call request = false
-
--- the call is handed a reservation of the slot for the request
-abbrev pub hands_reservation : Call → ℕ → SlotId → Bool
-hands_reservation (Call.bind reservation session capabilities) request slot =
-    nat_eq reservation.request request && slot_eq reservation.slot slot
-hands_reservation (Call.fail reservation reason) request slot =
-    nat_eq reservation.request request && slot_eq reservation.slot slot
-hands_reservation call request slot = false
-
--- the call is handed a closing of the slot
-abbrev pub hands_closing : Call → SlotId → Bool
-hands_closing (Call.freed closing) slot = slot_eq closing.slot slot
-hands_closing call slot = false
 
 -- the reply gives a ticket of the request
 abbrev pub gives_ticket : Reply → ℕ → Bool

@@ -60,13 +60,7 @@ fn node(alloc: Global, name: &str) -> Result<Registration, Fault>
         Ok(()) => {}
         Err(_) => return Err(Fault::Memory),
     }
-    Ok(Registration {
-        name,
-        address,
-        max_sessions: 1,
-        groups,
-        drain_after: None,
-    })
+    Ok(Registration::new(name, address, 1, groups))
 }
 
 fn register(core: &mut HubCore, registration: Registration) -> Registering

@@ -1,4 +1,4 @@
-//! Calls of the core with ample memory, as a run with failing allocations repeats them: `Fault::Memory` is want of memory, and
+//! Calls of the core with ample memory, as a run with failing allocations repeats them: `Fault::Memory` is out of memory, and
 //! what else is not as it should be ends the test.
 ghost use Rattle.std.specs.Prelude.{◌≡◌, ◌<◌, true, IfOk};
 ghost use Rattle.grid_types.specs.Permitted.{is_well_sized};
@@ -31,13 +31,7 @@ fn registration(alloc: Global) -> Result<Registration, Fault>
         Err(_) => return Err(Fault::Memory),
     }
     let address = NodeAddress::from_bytes(b"127.0.0.1:1").ok_or(Fault::NotTaken)?;
-    Ok(Registration {
-        name: Text::of(alloc, "n")?,
-        address,
-        max_sessions: 1,
-        groups,
-        drain_after: None,
-    })
+    Ok(Registration::new(Text::of(alloc, "n")?, address, 1, groups))
 }
 
 /// A core with that node.

@@ -12,9 +12,10 @@ use Rattle.grid_types.specs.Tokens.{Ticket, Reservation, Closing, is_good_ticket
 use Rattle.grid_types.specs.declared.entry.FailWhy.{FailWhy}
 use Rattle.grid_types.specs.Permitted.{is_start_failure}
 use Rattle.grid_types.specs.Calls.{Call, Reply}
+use Rattle.grid_types.specs.HandedIn.{hands_ticket, hands_reservation, hands_closing}
 use Rattle.hub_core.specs.HubView.{HubView, past}
 use Rattle.hub_core.specs.Answers.{Answers}
-use Rattle.hub_core.specs.Serves.{Serves, MayCall, hands_ticket, hands_reservation, hands_closing}
+use Rattle.hub_core.specs.Serves.{Serves, MayCall}
 use Rattle.hub_core.specs.Replies.{enqueued_reply, polled_reply, withdrawing_reply, dispatched_reply, binding_reply, ending_reply, expiring_reply, KeepsTicket, KeepsReservation}
 use Rattle.hub_core.specs.declared.answers.Enqueued.{Enqueued}
 use Rattle.hub_core.specs.declared.answers.Enqueued.TheVariants as enqueued

@@ -39,7 +39,7 @@ pub(crate) fn are_asked(alloc: Global, nodes: &MemNodes, wanted: &str) -> Option
     Some(asks.as_str() == wanted)
 }
 
-/// Whether the client is served so from moment 0 on. None is want of memory, as everywhere here.
+/// Whether the client is served so from moment 0 on. None is out of memory, as everywhere here.
 pub(crate) fn serves<R: Wait>(
     rt: &R,
     alloc: Global,

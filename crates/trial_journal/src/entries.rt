@@ -33,13 +33,12 @@ pub fn registration(alloc: Global, name: &str) -> Option<Registration> {
             count: 2,
         })
         .ok()?;
-    Some(Registration {
-        name: Text::of(alloc, name).ok()?,
-        address: NodeAddress::from_bytes(b"n:1")?,
-        max_sessions: 2,
+    Some(Registration::new(
+        Text::of(alloc, name).ok()?,
+        NodeAddress::from_bytes(b"n:1")?,
+        2,
         groups,
-        drain_after: None,
-    })
+    ))
 }
 
 /// A node registers at the moment.

@@ -1,7 +1,7 @@
 //! The words of the program over an input and an output in memory.
+use grid_check::check_main;
 use grid_outside::{MemSink, MemSource};
 use grid_types::{Bytes, Text};
-use journal_check::check_main;
 use std::alloc::Global;
 use std::test::Fail;
 

@@ -32,7 +32,7 @@ fn are_asked(alloc: Global, nodes: &MemNodes, wanted: &str) -> Option<bool> {
     Some(asks.as_str() == wanted)
 }
 
-/// Whether the client is served so. None is want of memory, as everywhere here.
+/// Whether the client is served so. None is out of memory, as everywhere here.
 pub(crate) fn serves(
     alloc: Global,
     hub: &mut LocalHub,

@@ -34,7 +34,7 @@ pub fn joined(alloc: Global, parts: &[&[u8]]) -> Option<Vec<u8>> {
     Some(all)
 }
 
-/// The client's connection. None is want of memory, or that a piece may have no byte.
+/// The client's connection. None is out of memory, or that a piece may have no byte.
 pub fn link_of(alloc: Global, client: &Client<'_>) -> Option<MemLink> {
     if client.gives == 0 || client.takes == 0 {
         return None;

@@ -11,7 +11,7 @@ use grid_types::{
 };
 use hub_cell::{Pass, SharedHub};
 use hub_core::{Enqueued, Polled, Ticket};
-use hub_crew::{Tool, crew};
+use hub_workers::{Tool, crew};
 use std::alloc::Global;
 use std::sync::Wait;
 use std::sync::atomic::Ordering;
@@ -43,13 +43,12 @@ fn chrome_node(alloc: Global) -> Result<Registration, NoMemory>
     }) else {
         return Err(NoMemory);
     };
-    Ok(Registration {
-        name: Text::of(alloc, "n")?,
-        address: NodeAddress::from_bytes(b"n:1").ok_or(NoMemory)?,
-        max_sessions: 2,
-        drain_after: None,
+    Ok(Registration::new(
+        Text::of(alloc, "n")?,
+        NodeAddress::from_bytes(b"n:1").ok_or(NoMemory)?,
+        2,
         groups,
-    })
+    ))
 }
 
 /// Who waits for a session.

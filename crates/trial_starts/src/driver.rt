@@ -56,7 +56,7 @@ fn turn<N: NodeLink, C: Clock>(
     }
 }
 
-/// Carries a start to its end on a hub of one thread: how it ended, and whether it met want of
+/// Carries a start to its end on a hub of one thread: how it ended, and whether a step was out of
 /// memory.
 pub fn carry_out<N: NodeLink, C: Clock>(
     alloc: Global,

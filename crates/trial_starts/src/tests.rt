@@ -210,13 +210,12 @@ fn chrome_node(alloc: Global, name: &str) -> Result<Registration, NoMemory>
     }) else {
         return Err(NoMemory);
     };
-    Ok(Registration {
-        name: Text::of(alloc, name)?,
-        address: NodeAddress::from_bytes(name.as_bytes()).ok_or(NoMemory)?,
-        max_sessions: 1,
-        drain_after: None,
+    Ok(Registration::new(
+        Text::of(alloc, name)?,
+        NodeAddress::from_bytes(name.as_bytes()).ok_or(NoMemory)?,
+        1,
         groups,
-    })
+    ))
 }
 
 fn push(text: &mut String, piece: &str) -> Result<(), NoMemory> {

@@ -37,13 +37,7 @@ fn registration(rt: &impl Abort, alloc: Global) -> Result<Registration, NoMemory
 {
     let groups = two_slots(alloc)?;
     let name = Text::of(alloc, "n")?;
-    Ok(Registration {
-        name,
-        address: address(rt),
-        max_sessions: 2,
-        groups,
-        drain_after: None,
-    })
+    Ok(Registration::new(name, address(rt), 2, groups))
 }
 
 /// The node's slots are both free.

@@ -39,13 +39,7 @@ fn registration(rt: &impl Abort, alloc: Global) -> Result<Registration, NoMemory
         Some(address) => address,
         None => panic!(rt; "no address"),
     };
-    Ok(Registration {
-        name: Text::of(alloc, "n\"7")?,
-        address,
-        max_sessions: 3,
-        groups: Groups::new(alloc),
-        drain_after: None,
-    })
+    Ok(Registration::new(Text::of(alloc, "n\"7")?, address, 3, Groups::new(alloc)))
 }
 
 fn put_states(slots: &mut SlotViews, states: &[SlotState]) -> Result<(), NoMemory> {

@@ -1,6 +1,6 @@
 //! Paths and methods with their routes, and ids of nodes.
-use grid_types::NoMemory;
-use router_core::{RouteFault, Routed, Router, node_number, route};
+use grid_types::{NoMemory, node_number};
+use router_core::{RouteFault, Routed, Router, route};
 use std::alloc::Global;
 use std::process::Abort;
 

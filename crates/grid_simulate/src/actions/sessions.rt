@@ -2,36 +2,25 @@
 ghost use Rattle.std.specs.Prelude.{◌≡◌, ◌<◌, IfOk, OnOk, vec_len};
 ghost use Rattle.std.specs.List.{slice_get};
 ghost use Rattle.grid_types.specs.Calls.{Call};
-ghost use Rattle.grid_types.specs.Tokens.{is_good_closing};
 ghost use Rattle.hub_core.specs.HubView.{past};
 ghost use Rattle.hub_core.specs.Serves.{MayCall};
 ghost use Rattle.loop_node.specs.LinkedNodes.{nodes_reached};
 ghost use Rattle.grid_simulate.specs.World.{world_of, called};
 ghost use Rattle.grid_simulate.specs.Actions.{EndsCall, EndsAt, EndsOf, Quits, QuitsIf, Expires};
 ghost use Rattle.grid_simulate.specs.Held.{IsSound};
-ghost use Rattle.grid_simulate.specs.Looks.{Asked, Looked, is_no_lack};
+ghost use Rattle.grid_simulate.specs.Looks.{Asked, Looked};
 
 use crate::draws::{count_of, draw_place};
 use crate::lists::take_out;
 use crate::simulation::{Kept, Simulation};
-use grid_outside::{ExchangeFault, NodeLink, Reply};
+use grid_outside::NodeLink;
 use grid_types::{Moment, NoMemory};
 use hub_core::{Closing, Ending, Expiring};
 use loop_node::LoopNodes;
-use node_client::{SessionPath, quit_request};
+use node_client::{SessionPath, quit_request, was_sent};
 use std::alloc::Global;
 
-fn was_sent(came: &Result<Reply, ExchangeFault>) -> bool
-    ensures { result ≡ is_no_lack came.now }
-{
-    match came {
-        Err(ExchangeFault::Memory) => false,
-        Err(ExchangeFault::Unreachable) => true,
-        Ok(_) => true,
-    }
-}
-
-/// Asks the node of the closing to end its session. Err is want of memory: it was not asked.
+/// Asks the node of the closing to end its session. Err is out of memory: it was not asked.
 fn ask_to_end(alloc: Global, closing: &Closing, nodes: &mut LoopNodes) -> Result<(), NoMemory>
     ensures { OnOk result (Asked closing.now (nodes_reached nodes.old) (nodes_reached nodes.new)) }
 {
@@ -54,7 +43,7 @@ enum Idle {
 }
 
 impl Simulation {
-    /// Has the session of the closing ended at its node, and frees its slot in any case. Err is want of memory.
+    /// Has the session of the closing ended at its node, and frees its slot in any case. Err is out of memory.
     fn quit(&mut self, alloc: Global, closing: Closing) -> Result<(), NoMemory>
         requires sound { IsSound self.old }
         requires good { MayCall (past self.old.hub) 0 (Call.freed closing) }

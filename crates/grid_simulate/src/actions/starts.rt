@@ -43,7 +43,7 @@ impl Simulation {
         carry_out(alloc, reservation, &mut self.hub, &mut self.nodes, at)
     }
 
-    /// Takes the reservation at a place out and makes its start, in any case. Err is want of memory.
+    /// Takes the reservation at a place out and makes its start, in any case. Err is out of memory.
     fn start_at(&mut self, alloc: Global, place: usize) -> Result<(), NoMemory>
         requires sound { IsSound self.old }
         requires within { place < vec_len self.old.reservations }
@@ -80,7 +80,7 @@ impl Simulation {
         self.start_at(alloc, place)
     }
 
-    /// Makes the start of each reservation, also after one that found no memory. Err is want of memory.
+    /// Makes the start of each reservation, also after one that found no memory. Err is out of memory.
     pub(crate) fn start_all(&mut self, alloc: Global) -> Result<(), NoMemory>
         requires { IsSound self.old }
         ensures sound { IsSound self.new }

@@ -1,7 +1,6 @@
 use Rattle.std.proofs.Common.{◌≡◌, subst}
 use Rattle.config_keys.specs.Rows.{rows_of}
 use Rattle.config_keys.specs.declared.rows.Mode.{Mode}
-use Rattle.grid_config.specs.Input.{input_of}
 use Rattle.grid_config.specs.Ran.{Ran}
 use Rattle.grid_config.specs.Servers.{MayServe}
 use Rattle.grid_config.proofs.NameLemmas.{one_name}
@@ -12,6 +11,6 @@ returns-in-Some-clause-ran g c = λ m is.
     subst (λ (k : Mode). Ran (rows_of k)
     (λ said. MayServe k said c.run_input.result (g.D.Door.view c.args.door.now) (g.D.Door.view c.run_input.new.door))
     c.run_input.result (c.run_input.new.door ≡ c.args.door.now)
-    (input_of (g.S.Source.given c.args.input.now) (g.S.Source.ends c.args.input.now) (g.S.Source.faults c.args.input.now))
-    (input_of (g.S.Source.given c.run_input.new.input) (g.S.Source.ends c.run_input.new.input) (g.S.Source.faults c.run_input.new.input)))
+    (g.S.Source.view c.args.input.now)
+    (g.S.Source.view c.run_input.new.input))
     (one_name c.args.words.now c.in-Some.mode m c.in-Some.ensures.some is) c.run_input.ensures

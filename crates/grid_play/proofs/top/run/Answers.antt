@@ -18,7 +18,7 @@ returns-in-Some-clause-ran g c = λ d nodes p. absurd (not_both c.args.words.now
 pub returns-in-Some-clause-summed : goal.returns-in-Some-clause-summed
 returns-in-Some-clause-summed g c = λ n small p.
     let w = c.write_simulation.ensures in
-    summed_of c.in-Some.number n c.write_simulation.result _ _ _ _ (one_number c.args.words.now c.in-Some.number n (omega arith) small c.in-Some.ensures.some p)
+    summed_of c.in-Some.number n c.write_simulation.result (g.K.Sink.view c.args.output.now) (g.K.Sink.view c.write_simulation.new.output) (one_number c.args.words.now c.in-Some.number n (omega arith) small c.in-Some.ensures.some p)
     w.statuses w.whole w.broken w.cause w.nothing
 
 pub returns-in-Some-clause-read : goal.returns-in-Some-clause-read

@@ -1,7 +1,6 @@
 use Rattle.std.proofs.Common.{List, sym, subst, ◌∙◌, refl, arith}
 use Rattle.team_words.specs.declared.team_play.TeamPlay.{TeamPlay}
 use Rattle.grid_teams_top.specs.Play.{first_standings}
-use Rattle.block_frames.specs.Inputs.{input_of}
 use Rattle.grid_teams_run.specs.Running.{Ran, run_of}
 use Rattle.grid_teams_run.specs.Teams.{AllMayStart}
 use Rattle.grid_teams_run.specs.declared.run_end.RunEnd.TheVariants as ends
@@ -26,8 +25,8 @@ pub returns-in-Ok-clause-ran : goal.returns-in-Ok-clause-ran
 returns-in-Ok-clause-ran g c = λ said says.
     let same = c.as_slice.ensures.value ∙ c.words_say_one_list.ensures c.args.words.now c.in-Ok.said.items said c.in-Ok.ensures.ok says in
     subst (λ (ts : List TeamPlay). Ran ts c.run_said.result
-    (run_of (input_of (g.S.Source.given c.args.input.now) (g.S.Source.ends c.args.input.now) (g.S.Source.faults c.args.input.now)) (g.K.Sink.taken c.args.output.now) (g.K.Sink.faults c.args.output.now))
-    (run_of (input_of (g.S.Source.given c.run_said.new.input) (g.S.Source.ends c.run_said.new.input) (g.S.Source.faults c.run_said.new.input)) (g.K.Sink.taken c.run_said.new.output) (g.K.Sink.faults c.run_said.new.output)))
+    (run_of (g.S.Source.view c.args.input.now) (g.K.Sink.view c.args.output.now).taken (g.K.Sink.view c.args.output.now).faults)
+    (run_of (g.S.Source.view c.run_said.new.input) (g.K.Sink.view c.run_said.new.output).taken (g.K.Sink.view c.run_said.new.output).faults))
     same c.run_said.ensures
 
 pub returns-in-Err-Refused-clause-words : goal.returns-in-Err-Refused-clause-words

@@ -1,5 +1,5 @@
 use Rattle.std.proofs.Common.{◌≤◌}
-use Rattle.hub_server.specs.Statuses.{NoneFell}
+use Rattle.grid_outside.specs.Told.{NoneFell}
 use Rattle.hub_server.proofs.handling.accept_links.Given as goal
 
 -- no count fell, and the door is set and bound where it was

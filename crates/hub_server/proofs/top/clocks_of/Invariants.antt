@@ -1,5 +1,5 @@
 use Rattle.std.proofs.Common.{◌≡◌, ◌≤◌, vec_len, vec_capacity}
-use Rattle.hub_server.specs.Statuses.{NoneFell}
+use Rattle.grid_outside.specs.Told.{NoneFell}
 use Rattle.hub_server.proofs.top.clocks_of.Given as goal
 
 -- so many clocks were taken, no count fell, and the door is set and bound where it was

@@ -1,5 +1,5 @@
 use Rattle.std.proofs.Common.{◌≡◌, ◌≤◌, vec_len, vec_capacity}
-use Rattle.hub_server.specs.Statuses.{NoneFell}
+use Rattle.grid_outside.specs.Told.{NoneFell}
 use Rattle.hub_server.proofs.top.posts_of.Given as goal
 
 -- so many posts were made, no count fell, and the door is bound where it was

@@ -1,5 +1,5 @@
 use Rattle.std.proofs.Common.{arith}
-use Rattle.local_driver.proofs.WayLemmas.{ticked}
+use Rattle.node_client.specs.ClockSteps.{ticked}
 use Rattle.local_driver.proofs.CallLemmas.{goes_same, goes_then, on_then}
 use Rattle.local_driver.proofs.BeginLemmas.{roomed_so, not_roomed, if_then, beaten_none, beats_on, beats_not, begins_then}
 use Rattle.local_driver.proofs.before.begin.Goals as goal

@@ -4,10 +4,11 @@ use Rattle.grid_types.specs.Calls.{Call, Reply}
 use Rattle.hub_core.specs.declared.answers.Expiring.{Expiring}
 use Rattle.hub_core.specs.HubView.{HubView, ServesLocally}
 use Rattle.hub_core.specs.Replies.{expiring_reply}
+use Rattle.node_client.specs.ClockSteps.{ticked}
 use Rattle.local_driver.specs.Idles.{Looked}
 use Rattle.local_driver.specs.World.{WentBy, world_of}
 use Rattle.local_driver.specs.declared.before.Idle.TheVariants as idle
-use Rattle.local_driver.proofs.WayLemmas.{ticked, serves_roomed}
+use Rattle.local_driver.proofs.WayLemmas.{serves_roomed}
 use Rattle.local_driver.proofs.BeginLemmas.{roomed_so, not_roomed, looked_expired, looked_over, looked_lacks, may_free, ends_one}
 use Rattle.local_driver.proofs.CallLemmas.{goes_then}
 use Rattle.local_driver.proofs.before.end_idle.Goals as goal

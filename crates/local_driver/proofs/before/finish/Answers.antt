@@ -1,8 +1,8 @@
 use Rattle.hub_core.specs.HubView.{past}
 use Rattle.local_driver.proofs.LiveLemmas.{freed_keeps}
-use Rattle.local_driver.proofs.WayLemmas.{ticked}
 use Rattle.local_driver.proofs.BeginLemmas.{finished_so}
 use Rattle.std.proofs.lemmas.Result.{err_from_is_err_and}
+use Rattle.node_client.specs.ClockSteps.{ticked}
 use Rattle.local_driver.proofs.before.finish.Goals as goal
 
 pub returns-clause-finishes : goal.returns-clause-finishes

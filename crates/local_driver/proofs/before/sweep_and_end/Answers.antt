@@ -1,9 +1,10 @@
 use Rattle.std.proofs.Common.{sym, subst, false, []}
 use Rattle.grid_types.specs.Calls.{Call}
 use Rattle.hub_core.specs.HubView.{HubView}
+use Rattle.node_client.specs.ClockSteps.{ticked}
 use Rattle.local_driver.specs.Beginning.{BeginsOrLacks}
 use Rattle.local_driver.specs.World.{WentBy, world_of}
-use Rattle.local_driver.proofs.WayLemmas.{ticked, serves_roomed}
+use Rattle.local_driver.proofs.WayLemmas.{serves_roomed}
 use Rattle.local_driver.proofs.BeginLemmas.{roomed_so, not_roomed, if_then, swept_so, sweep_not}
 use Rattle.local_driver.proofs.CallLemmas.{goes_then, on_then}
 use Rattle.local_driver.proofs.before.sweep_and_end.Goals as goal

@@ -1,6 +1,6 @@
+use Rattle.node_client.specs.ClockSteps.{ticked}
 use Rattle.local_driver.proofs.TurnLemmas.{begun_less, begun_turn, hub_less, hub_turn, lacks_turn, node_less, node_turn, over_turn, pause_less, pause_turn, read_less, read_turn, write_less, write_turn}
 use Rattle.local_driver.proofs.BeginLemmas.{begins_so, lacks_so}
-use Rattle.local_driver.proofs.WayLemmas.{ticked}
 use Rattle.local_driver.proofs.CallLemmas.{goes_same}
 use Rattle.local_driver.proofs.serving.turn.Goals as goal
 

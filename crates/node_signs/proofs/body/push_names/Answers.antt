@@ -13,7 +13,7 @@ returns c =
     let name : c.as_str.result.now ≡ c.args.node.now.name = c.as_str.ensures.bytes in
     let most : string_bytes c.write.new.self ≡ string_bytes c.push_json-2.new.text ++ (codes ",\"maxSessions\":" ++ decimal c.args.node.now.max_sessions) = c.in_ok-write.ensures.bytes in
     let address : string_bytes c.push_json-2.new.text ≡ string_bytes c.push_str.new.self ++ json_string c.args.node.now.address =
-    c.in_ok-push_json-2.ensures ∙ ap (λ (t : List ℕ). string_bytes c.push_str.new.self ++ json_string t) c.address_text.ensures in
+    c.in_ok-push_json-2.ensures ∙ ap (λ (t : List ℕ). string_bytes c.push_str.new.self ++ json_string t) c.as_str-2.ensures in
     let comma : string_bytes c.push_str.new.self ≡ string_bytes c.push_json.new.text ++ codes ",\"address\":" = c.in_ok-push_str.ensures.bytes in
     let first : string_bytes c.push_json.new.text ≡ string_bytes c.args.text.now ++ json_string c.args.node.now.name =
     c.in_ok-push_json.ensures ∙ ap (λ (t : List ℕ). string_bytes c.args.text.now ++ json_string t) name in

@@ -12,7 +12,7 @@ told body before digits behind (Some n) p h = p ∙ ap (λ (t : List ℕ). befor
 
 pub returns-in-Some : goal.returns-in-Some
 unfolding registered_bytes
-returns-in-Some c = told c.args.body.now (codes "{\"value\":{\"node\":") c.in-Some.digits.now (codes "}}") c.number_of.result c.in-Some.ensures c.number_of.ensures
+returns-in-Some c = told c.args.body.now (codes "{\"value\":{\"node\":") c.in-Some.digits.now (codes "}}") c.node_number.result c.in-Some.ensures c.node_number.ensures
 
 pub returns-in-None : goal.returns-in-None
 unfolding registered_bytes
