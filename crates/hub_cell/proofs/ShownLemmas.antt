@@ -100,8 +100,8 @@ module _ (c : HubConfig) (was mid : Grid) (new : HubCore) (v : View Grid) (k : �
   mid-config : mid.core.value.config ≡ c
   mid-config = keeps.same_config ∙ e
 
-  answered : is_none reply ≡ false
-  answered = is-answered c (past v) _ v.number call at reply (core-serves c mid.core.value new v k call at reply mid-stands mid-config own may serves)
+  pub announced-answered : is_none reply ≡ false
+  announced-answered = is-answered c (past v) _ v.number call at reply (core-serves c mid.core.value new v k call at reply mid-stands mid-config own may serves)
       (λ lack. there (ready.of (past v) s.core_stands v.number may (subst (λ (z : HubConfig). may_lack call (hub z (past v) v.number call at).reply ≡ true) (sym e) lack)))
 
   publishes : Publishes c (past v) v.number call at (pending mid.map)
@@ -113,7 +113,7 @@ module _ (c : HubConfig) (was mid : Grid) (new : HubCore) (v : View Grid) (k : �
   pub announced-stands : (map told : MapWriter) → published map ≡ lookup.published (published mid.map) (pending mid.map) → pending map ≡ [] → published told ≡ published map → pending told ≡ pending map →
       GridStands new told (history_of (v.seen ++ made))
   announced-stands map told p none same waiting = record {
-    core_stands = some-stands c mid.core.value new v k call at reply mid-stands mid-config own may serves made m answered;
+    core_stands = some-stands c mid.core.value new v k call at reply mid-stands mid-config own may serves made m announced-answered;
     map_stands = record { shows = same ∙ announced-shown map p; none_pending = waiting ∙ none };
   }
 
@@ -121,4 +121,4 @@ module _ (c : HubConfig) (was mid : Grid) (new : HubCore) (v : View Grid) (k : �
   announced-config = same-config c mid.core.value new v k call at reply mid-stands mid-config own may serves
 
   pub announced-there : (w : View Grid) → w ≡ after made v → IsExact w → ServesThere c v call at reply w
-  announced-there w goes exact = some-there c mid.core.value new v k call at reply mid-stands mid-config own may serves made w m answered goes exact
+  announced-there w goes exact = some-there c mid.core.value new v k call at reply mid-stands mid-config own may serves made w m announced-answered goes exact

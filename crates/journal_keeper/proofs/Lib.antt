@@ -1,3 +1,3 @@
 pub mod ImageLemmas
-pub mod DeskLemmas
+pub mod HoldsLemmas
 pub mod FileLemmas

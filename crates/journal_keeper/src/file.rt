@@ -1,10 +1,10 @@
 //! A journal's file on a disk. To a hub it tells no bytes.
-ghost use Rattle.std.specs.Prelude.{◌≡◌, ℕ, ◌≤◌, None, OnOk, OnErr};
+ghost use Rattle.std.specs.Prelude.{◌≡◌, ℕ, ◌≤◌, None, OnOk, IfErr};
 ghost use Rattle.std.specs.Io.KnownBytes.{Appends};
 ghost use Rattle.grid_outside.specs.Counts.{HasCause, Rose};
 ghost use Rattle.journal_keeper.specs.Keeps.{Adds, AddsFront, AppendsFront};
 
-use crate::keeper::Keeper;
+use crate::keeper::{Keeper, Short};
 use grid_outside::Failed;
 use std::fs::OpenFile;
 use std::io::Write;
@@ -45,20 +45,20 @@ impl<F: Write + OpenFile + Drop> FileKeeper<F> {
         &self.file
     }
 
-    fn failed(&mut self) -> Failed
+    /// Counts a failure.
+    fn count_fault(&mut self)
         ensures file { self.new.file ≡ self.old.file }
         ensures later { self.old.faults ≤ self.new.faults }
         ensures rose { Rose self.old.faults self.new.faults }
     {
         self.faults = self.faults.saturating_add(1);
-        Failed
     }
 
     /// Writes all of the piece. A write that takes nothing of what is left has failed.
-    fn write_piece(&mut self, piece: &[u8]) -> Result<(), Failed>
+    fn write_piece(&mut self, piece: &[u8]) -> Result<(), Short>
         ensures whole { OnOk result (Appends (F.contents self.old.file) (F.contents self.new.file) piece.now) }
-        ensures part { OnErr result
-            (AppendsFront (F.contents self.old.file) (F.contents self.new.file) piece.now) }
+        ensures part { IfErr result (λ short. AppendsFront
+            (F.contents self.old.file) (F.contents self.new.file) piece.now short.taken) }
         ensures cause { HasCause self.old.faults self.new.faults result }
     {
         let mut at = 0;
@@ -69,10 +69,11 @@ impl<F: Write + OpenFile + Drop> FileKeeper<F> {
             }
             match self.file.write(rest) {
                 Ok(count) if count > 0 => at += count,
-                _ => return Err(self.failed()),
+                _ => break,
             }
         }
-        Err(self.failed())
+        self.count_fault();
+        Err(Short { taken: at })
     }
 
     fn sync_file(&mut self) -> Result<(), Failed>
@@ -81,7 +82,10 @@ impl<F: Write + OpenFile + Drop> FileKeeper<F> {
     {
         match self.file.sync_data() {
             Ok(()) => Ok(()),
-            Err(_) => Err(self.failed()),
+            Err(_) => {
+                self.count_fault();
+                Err(Failed)
+            }
         }
     }
 }
@@ -97,19 +101,23 @@ impl<F: Write + OpenFile + Drop> Keeper for FileKeeper<F> {
         true
     }
 
-    /// Where the file's writer tells its bytes, those of the piece stand behind them, or a front of those.
-    fn append(&mut self, piece: &[u8]) -> Result<(), Failed>
+    /// Where the file's writer tells its bytes, those of the piece stand behind them, or a front of those. Where they all do
+    /// and could not be synced, the piece was taken whole all the same.
+    fn append(&mut self, piece: &[u8]) -> Result<(), Short>
         ensures whole { OnOk result (Adds None None piece.now) }
-        ensures part { OnErr result (AddsFront None None piece.now) }
+        ensures part { IfErr result (λ short. AddsFront None None piece.now short.taken) }
         ensures synced { 0 ≤ 0 }
         ensures cause { HasCause self.old.faults self.new.faults result }
         ensures written { OnOk result (Appends (F.contents self.old.file) (F.contents self.new.file) piece.now) }
-        ensures cut { OnErr result
-            (AppendsFront (F.contents self.old.file) (F.contents self.new.file) piece.now) }
+        ensures cut { IfErr result (λ short. AppendsFront
+            (F.contents self.old.file) (F.contents self.new.file) piece.now short.taken) }
     {
         self.write_piece(piece)?;
         match self.syncing {
-            Syncing::Each => self.sync_file(),
+            Syncing::Each => match self.sync_file() {
+                Ok(()) => Ok(()),
+                Err(_) => Err(Short { taken: piece.len() }),
+            },
             Syncing::Apart => Ok(()),
         }
     }

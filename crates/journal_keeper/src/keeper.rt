@@ -1,9 +1,15 @@
 //! What keeps the bytes of a journal.
-ghost use Rattle.std.specs.Prelude.{◌≡◌, ℕ, ◌≤◌, List, length, None, Option, OnOk, OnErr, IfSome, false};
+ghost use Rattle.std.specs.Prelude.{◌≡◌, ℕ, ◌≤◌, List, length, None, Option, OnOk, IfErr, IfSome, false};
 ghost use Rattle.grid_outside.specs.Counts.{HasCause};
 ghost use Rattle.journal_keeper.specs.Keeps.{Adds, AddsFront};
 
 use grid_outside::Failed;
+
+/// An append failed: so many bytes from the front of its piece stand there, perhaps none, perhaps all.
+#[derive(Clone, Copy, Debug, PartialEq, Eq)]
+pub struct Short {
+    pub taken: usize,
+}
 
 /// A file that grows at its end. A kill while an append runs leaves what stood there and a front of the piece.
 pub trait Keeper {
@@ -20,10 +26,11 @@ pub trait Keeper {
     fn is_kept(&self) -> bool
         ensures untold { result ≡ false → kept self.now ≡ None };
 
-    /// Puts the piece behind all that stands there. Err: a front of it stands there, perhaps nothing, perhaps all.
-    fn append(&mut self, piece: &[u8]) -> Result<(), Failed>
+    /// Puts the piece behind all that stands there. Err: a front of it stands there.
+    fn append(&mut self, piece: &[u8]) -> Result<(), Short>
         ensures whole { OnOk result (Adds (kept self.old) (kept self.new) piece.now) }
-        ensures part { OnErr result (AddsFront (kept self.old) (kept self.new) piece.now) }
+        ensures part { IfErr result (λ short.
+            AddsFront (kept self.old) (kept self.new) piece.now short.taken) }
         ensures synced { synced self.old ≤ synced self.new }
         ensures cause { HasCause (faults self.old) (faults self.new) result };
 
@@ -50,7 +57,7 @@ impl Keeper for NoJournal {
         false
     }
 
-    fn append(&mut self, _piece: &[u8]) -> Result<(), Failed> {
+    fn append(&mut self, _piece: &[u8]) -> Result<(), Short> {
         Ok(())
     }
 

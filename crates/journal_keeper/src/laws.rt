@@ -1,5 +1,6 @@
 //! Laws of images, each as the contract of a function that does nothing.
 ghost use Rattle.journal_keeper.specs.Images.{FrontsAreImages, KillsLeaveImages, WrittenIsJournal};
+ghost use Rattle.journal_keeper.specs.Keeps.{CutPiecesAreImages, PiecesGoOn};
 
 /// Whatever front of its entries a journal ends with, it has whole ones and at most a part of one.
 pub fn fronts_are_images()
@@ -16,4 +17,16 @@ pub fn kills_leave_images()
 #[tactic(auto, using(crate::proofs::ImageLemmas::written_is_journal))]
 pub fn written_is_journal()
     ensures { WrittenIsJournal }
+{}
+
+/// A journal goes on with the bytes of entries.
+#[tactic(auto, using(crate::proofs::HoldsLemmas::pieces_go_on))]
+pub fn pieces_go_on()
+    ensures { PiecesGoOn }
+{}
+
+/// An append that took a part of the bytes of entries leaves an image.
+#[tactic(auto, using(crate::proofs::HoldsLemmas::cut_pieces_are_images))]
+pub fn cut_pieces_are_images()
+    ensures { CutPiecesAreImages }
 {}

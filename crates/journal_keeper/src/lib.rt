@@ -7,18 +7,24 @@
 //!   database keeps.
 //! - A piece has the entries of one turn, and a kill or a full disk may cut it anywhere, also between two entries: what is
 //!   left is a front of entries, not of turns.
+//! - An append that fails tells how much it took, so that a running hub may wait, as for room on a full disk, and go on
+//!   just there: it holds up what it answers, and neither forgets nor ends.
 //! - A keeper over a real file tells no bytes. Then the clauses say that each piece was handed on and each failure told; that
 //!   the file has what a write took is the system's promise.
 #![tactic(auto)]
 
-mod desk;
 mod file;
 mod keeper;
+mod keeping;
 mod laws;
 mod memory;
+mod whole;
 
-pub use desk::Desk;
 pub use file::{FileKeeper, Syncing};
-pub use keeper::{Keeper, NoJournal};
-pub use laws::{fronts_are_images, kills_leave_images, written_is_journal};
+pub use keeper::{Keeper, NoJournal, Short};
+pub use keeping::Keeping;
+pub use laws::{
+    cut_pieces_are_images, fronts_are_images, kills_leave_images, pieces_go_on, written_is_journal,
+};
 pub use memory::MemKeeper;
+pub use whole::{keep_all, keep_told};

@@ -2,7 +2,7 @@
 ghost use Rattle.std.specs.Prelude.{◌≡◌, ℕ, ◌≤◌, List, [], length, Some};
 ghost use Rattle.grid_outside.specs.Counts.{Rose};
 
-use crate::keeper::Keeper;
+use crate::keeper::{Keeper, Short};
 use grid_outside::Failed;
 use std::alloc::Global;
 
@@ -63,14 +63,14 @@ impl MemKeeper {
         self.planned.contains(&call)
     }
 
-    fn failed(&mut self) -> Failed
+    /// Counts a failure.
+    fn count_fault(&mut self)
         ensures bytes { self.new.bytes ≡ self.old.bytes }
         ensures synced { self.new.synced ≡ self.old.synced }
         ensures later { self.old.faults ≤ self.new.faults }
         ensures rose { Rose self.old.faults self.new.faults }
     {
         self.faults = self.faults.saturating_add(1);
-        Failed
     }
 }
 
@@ -85,22 +85,29 @@ impl Keeper for MemKeeper {
         true
     }
 
-    fn append(&mut self, piece: &[u8]) -> Result<(), Failed> {
-        if self.next_fails() {
-            let count = self.part.min(piece.len());
-            let (front, _rest) = piece.split_at(count);
-            let _ = self.bytes.extend_from_slice(front);
-            return Err(self.failed());
+    fn append(&mut self, piece: &[u8]) -> Result<(), Short> {
+        let fails = self.next_fails();
+        let most = if fails {
+            self.part.min(piece.len())
+        } else {
+            piece.len()
+        };
+        let (front, _rest) = piece.split_at(most);
+        let taken = match self.bytes.extend_from_slice(front) {
+            Ok(()) => most,
+            Err(_) => 0,
+        };
+        if taken == piece.len() && !fails {
+            return Ok(());
         }
-        match self.bytes.extend_from_slice(piece) {
-            Ok(()) => Ok(()),
-            Err(_) => Err(self.failed()),
-        }
+        self.count_fault();
+        Err(Short { taken })
     }
 
     fn sync(&mut self) -> Result<(), Failed> {
         if self.next_fails() {
-            return Err(self.failed());
+            self.count_fault();
+            return Err(Failed);
         }
         self.synced = self.synced.max(self.bytes.len());
         Ok(())

@@ -19,8 +19,8 @@ use Rattle.turn_cell.specs.declared.views.Stage.{Stage}
 use Rattle.turn_cell.specs.declared.views.Stage.TheVariants.{Gone, Idle, Waits, Serves, Gives, Joins, Tells}
 use Rattle.turn_cell.specs.declared.views.Doing.{Doing}
 use Rattle.turn_cell.specs.Rule.{GoesOnFrom, Track, ticket_of, Held, entries_of, AllBy, AllDiffer, number_of, Owns, IsLive, Knows, Sound, Kept, doing, starting}
-use Rattle.turn_cell.specs.Steps.{looked_once, looked, remarked, with_look, drawn, seeing, served, after, noted, raised, noting, ticket_in, split_off, newborn, IsUnused, ended_of, joined, gone, settled, telling, heard}
-use Rattle.turn_cell.proofs.Lists.{put, put_here, put_else, moved, moved_there, moved_else, from, from_there, from_else, from_rises, at_end, at_below, prefix_self, prefix_of_append, prefix_shorter, between, entries_mine, entries_else, differ_append}
+use Rattle.turn_cell.specs.Steps.{HasBegun, looked_once, looked, remarked, with_look, drawn, seeing, served, after, noted, raised, noting, ticket_in, split_off, newborn, IsUnused, ended_of, joined, gone, settled, telling, heard}
+use Rattle.turn_cell.proofs.Lists.{put, put_here, put_else, prefix_trans, moved, moved_there, moved_else, from, from_there, from_else, from_rises, at_end, at_below, prefix_self, prefix_of_append, prefix_shorter, between, entries_mine, entries_else, differ_append}
 use Rattle.turn_cell.proofs.Lives.{seats_stay, owns_each, owns_append, apart_of, ended_exact, live_exact, unused_of, live_on, Follows, knows_on, held_set}
 
 chosen : (b : Bool) (K : List Entry → ℕ → Type 0) (x y : List Entry) (i j : ℕ) → (b ≡ true → K x i) → (b ≡ false → K y j) → K (if b then x else y) (if b then i else j)
@@ -121,6 +121,7 @@ module _ {V M : Type 0} (stands : V → List Entry → Type 0) (mark : V → M) 
               brief = o.brief;
               out = o.out;
               home = o.home;
+              begun = o.begun;
               at_turn = λ b. let l = o.at_turn b in omega arith;
               at_rest = o.at_rest;
               unmade = o.unmade;
@@ -187,6 +188,7 @@ module _ {V M : Type 0} (stands : V → List Entry → Type 0) (mark : V → M) 
               brief = o.brief;
               out = λ _. ap (λ (hs : Homes). set hs 0 none) h.1;
               home = λ no. absurd (no refl);
+              begun = o.begun;
               at_turn = λ _. let high = known.2 in omega arith;
               at_rest = λ z. absurd (omega arith);
               unmade = λ _. none_made;
@@ -236,7 +238,7 @@ module _ {V M : Type 0} (stands : V → List Entry → Type 0) (mark : V → M) 
             (
               l.begins,
               stand,
-              (λ x e. h.3 ∙ ap mark (some_of (sym l.marked.0 ∙ e))),
+              (λ x e. let same : origin ≡ x = some_of (sym l.marked.0 ∙ e) in (h.3 ∙ ap mark same, subst (λ (z : V). HasBegun stands z f.log) same o.begun)),
               (
                 l.own.2,
                 ended_exact g id f.log me.0.view.ended
@@ -271,6 +273,7 @@ module _ {V M : Type 0} (stands : V → List Entry → Type 0) (mark : V → M) 
               brief = o.brief;
               out = λ z. absurd (omega arith);
               home = λ _. (y, there, subst (λ (z : List Entry). stands y (z ++ entries)) turn.7 stand, marked origin l.marked.0);
+              begun = o.begun;
               at_turn = λ _. omega arith;
               at_rest = λ z. absurd (omega arith);
               unmade = λ no. absurd (no refl);
@@ -343,6 +346,7 @@ module _ {V M : Type 0} (stands : V → List Entry → Type 0) (mark : V → M) 
               brief = omega arith;
               out = λ z. absurd (omega arith);
               home = λ _. (h.0, h.1, subst (stands h.0) (ap (λ (z : List Entry). f.log ++ z) (sym known.2) ∙ sym (append-nil log')) h.2, h.3);
+              begun = (o.begun.0, o.begun.1, prefix_trans o.begun.0 f.log log' o.begun.2 (prefix_of_append f.log entries));
               at_turn = λ z. absurd (omega arith);
               at_rest = λ _. refl;
               unmade = λ _. refl;
@@ -395,6 +399,7 @@ module _ {V M : Type 0} (stands : V → List Entry → Type 0) (mark : V → M) 
           brief = omega arith;
           out = o.out;
           home = o.home;
+          begun = o.begun;
           at_turn = o.at_turn;
           at_rest = λ z. let p = known.1 in absurd (omega arith);
           unmade = o.unmade;
@@ -493,6 +498,7 @@ module _ {V M : Type 0} (stands : V → List Entry → Type 0) (mark : V → M) 
           brief = o.brief;
           out = o.out;
           home = o.home;
+          begun = o.begun;
           at_turn = o.at_turn;
           at_rest = o.at_rest;
           unmade = o.unmade;
@@ -580,6 +586,7 @@ module _ {V M : Type 0} (stands : V → List Entry → Type 0) (mark : V → M) 
       brief = omega arith;
       out = λ z. absurd (omega arith);
       home = λ _. (origin, refl, subst (stands origin) (sym (append-nil es)) stand, refl);
+      begun = (es, stand, prefix_self es);
       at_turn = λ z. absurd (omega arith);
       at_rest = λ _. refl;
       unmade = λ _. refl;

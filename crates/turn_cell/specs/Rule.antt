@@ -112,7 +112,8 @@ module _ {V : Type 0} where
 
   module _ {M : Type 0} (stands : V → List Entry → Type 0) (mark : V → M) (origin : V) (first : ℕ) where
     -- of the words, TICKET and SERVING, and of the slot. Tickets are drawn from `first` to below 2^62. The value at home has the
-    -- cell's mark, and stands for the history with the entries that are noted. A number above `first` that was not given has no
+    -- cell's mark, and stands for the history with the entries that are noted. The history begins with one that the first
+    -- value stood for. A number above `first` that was not given has no
     -- entry, and each number that was given, but the first pass's, is 1 more than a ticket whose turn is over or has split
     pub record Sound (f : Track) (words : List ℕ) (homes : List (maybe.Option (Option V))) : Type 0 where
       pub words_are : words ≡ f.ticket ∷ f.serving ∷ []
@@ -121,6 +122,7 @@ module _ {V : Type 0} where
       pub brief : f.noted ≤ 1
       pub out : f.phase ≡ 1 → homes ≡ none ∷ []
       pub home : f.phase ≢ 1 → (y : V) × (homes ≡ some (Some y) ∷ []) × stands y (f.log ++ f.made) × (mark y ≡ mark origin)
+      pub begun : (start : List Entry) × stands origin start × IsPrefix start f.log
       pub at_turn : 0 < f.phase → f.serving < f.ticket
       pub at_rest : f.phase ≡ 0 → f.noted ≡ 0
       pub unmade : f.phase ≢ 2 → f.made ≡ []
@@ -148,3 +150,7 @@ pub record GoesOnFrom (first number : ℕ) (es : List Entry) : Type 0 where
   pub low : number ≤ first
   pub own : entries_of number es ≡ []
   pub later : (n : ℕ) → first < n → entries_of n es ≡ []
+
+-- A value that a cell may go on from: it stands for such entries.
+abbrev pub MayGoOn : {V : Type 0} → (V → List Entry → Type 0) → ℕ → ℕ → V → Type 0
+MayGoOn stands first number value = (es : List Entry) × stands value es × GoesOnFrom first number es

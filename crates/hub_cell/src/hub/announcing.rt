@@ -1,6 +1,6 @@
 //! What the calls that may change the published map have in common: each takes one turn, in which it makes its items
-//! pending before its change, and shows them after it.
-ghost use Rattle.std.specs.Prelude.{◌≡◌, ℕ, [], ◌∷◌, true, OnOk, OnErr, IfOk, IfErr};
+//! pending before its change, and shows them once its entries are kept.
+ghost use Rattle.std.specs.Prelude.{◌≡◌, ℕ, [], ◌∷◌, true, OnOk, OnErr, IfOk, IfErr, is_some};
 ghost use Rattle.turn_cell.specs.Cells.{view_of, origin_of, IsFree, HasTurn};
 ghost use Rattle.turn_cell.specs.Cells as cells;
 ghost use Rattle.grid_types.specs.HubAnswers.{hub};
@@ -9,17 +9,20 @@ ghost use Rattle.hub_core.specs.Ahead.{Publishes};
 ghost use Rattle.hub_core.specs.Serves.{MayCall};
 ghost use Rattle.hub_core.specs.CoreStands.{CoreKeeps, CoreTells};
 ghost use Rattle.map_view.specs.Maps.{published, pending};
-ghost use Rattle.hub_cell.specs.Published.{GridStands, KnowsChanges};
+ghost use Rattle.journal_keeper.specs.Keepings.{kept_by};
+ghost use Rattle.hub_cell.specs.Published.{GridStands, JournalStands, KnowsChanges};
 ghost use Rattle.hub_cell.specs.Passes.{knows, config_of, IsAlone, IsOf, SameSpares};
 ghost use Rattle.hub_cell.specs.Shared.{made_by, past, PassMay, SharedServes};
 ghost use Rattle.hub_cell.specs.Unanswered.{IsUnanswered, fault_of};
 ghost use Rattle.hub_cell.specs.Turning.{ServesThere, LacksThere};
 
-use crate::grid::Grid;
+use crate::grid::{Grid, let_entries_go};
 use crate::hub::asking::token_laws;
 use crate::hub::{CellFault, Pass, SharedHub, Stopped};
+use grid_journal::{Piece, PieceFault};
 use grid_types::NoMemory;
 use hub_core::HubCore;
+use journal_keeper::keep_told;
 use map_view::{Item, Items, MapReader};
 use std::alloc::Global;
 use std::marker::Brand;
@@ -38,6 +41,7 @@ pub(crate) trait Announces: Drop {
     ghost use Rattle.hub_core.specs.Ahead.{Publishes};
     ghost use Rattle.hub_core.specs.Serves.{MayCall};
     ghost use Rattle.hub_core.specs.CoreStands.{CoreServes, CoreKeeps, CoreTells};
+    ghost use Rattle.hub_tellers.specs.Records.{TellsCall};
     ghost use Rattle.map_view.specs.Lists.{listed};
     ghost use Rattle.hub_cell.specs.Published.{MayLack};
 
@@ -71,10 +75,19 @@ pub(crate) trait Announces: Drop {
         ensures lacks { CoreTells core.old (λ H. (caller : ℕ) → MayCall H caller (call self.now) →
             MayLack result → lacks self.now core.old.config H caller) };
 
-    fn answer(self, core: &mut HubCore, caller: u64) -> Self::Answer
-        ensures serves { CoreServes core.old core.new caller (call self) (at self) (reply result) }
-        ensures there { ready self core.old → is_some (reply result) ≡ true }
-        ensures back { back self result };
+    /// Makes the call, and tells what it enters behind the piece.
+    fn answer(
+        self,
+        core: &mut HubCore,
+        piece: &mut Piece,
+        caller: u64,
+    ) -> (Self::Answer, Result<(), PieceFault>)
+        ensures serves { CoreServes core.old core.new caller (call self) (at self)
+            (reply result.0) }
+        ensures told { TellsCall core.old caller (call self) (at self) (reply result.0) piece.old
+            piece.new result.1 }
+        ensures there { ready self core.old → is_some (reply result.0) ≡ true }
+        ensures back { back self result.0 };
 }
 
 /// Why a call was not answered; what was asked comes back.
@@ -112,6 +125,7 @@ fn prepare<Q: Announces>(grid: &mut Grid, question: &Q, alloc: Global) -> Result
     requires none { pending grid.old.map ≡ [] }
     ensures keeps { CoreKeeps grid.old.core.value grid.new.core.value }
     ensures shown { published grid.new.map ≡ published grid.old.map }
+    ensures journal { (grid.new.keeping ≡ grid.old.keeping) × (grid.new.piece ≡ grid.old.piece) }
     ensures items { OnOk result (CoreTells grid.old.core.value
         (λ H. (caller : ℕ) → MayCall H caller (Q.call question.now) →
         Publishes grid.old.core.value.config H caller (Q.call question.now) (Q.at question.now)
@@ -149,6 +163,10 @@ fn announce_there<Q: Announces, E: Made, R: Wait>(
     requires own { cells.IsOf cell.now pass.old × HasTurn pass.old turn }
     requires stands { GridStands turn.value.core.value turn.value.map (past (view_of pass.old))
         × (turn.value.core.value.config ≡ (origin_of cell.now).core.value.config) }
+    requires journal { JournalStands turn.value.core.value.config (view_of pass.old).seen
+        (kept_by turn.value.keeping) turn.value.piece }
+    requires tells { is_some (kept_by turn.value.keeping)
+        ≡ is_some (kept_by (origin_of cell.now).keeping) }
     requires may { PassMay (view_of pass.old) (Q.call question) }
     requires made { E.entries ≡ made_by (origin_of cell.now).core.value.config
         (past (view_of pass.old)) (view_of pass.old).number (Q.call question) (Q.at question) }
@@ -168,7 +186,10 @@ fn announce_there<Q: Announces, E: Made, R: Wait>(
         cell.leave::<Brand>(turn, pass);
         return Err(question);
     }
-    let answer = question.answer(&mut *grid.core, caller);
+    let answered = question.answer(&mut *grid.core, &mut grid.piece, caller);
+    let (answer, told) = answered;
+    keep_told(rt, &mut grid.keeping, grid.piece.as_bytes(), told);
+    let_entries_go(&mut grid.piece, alloc);
     grid.map.publish(rt);
     grid.map.tell(reader);
     cell.leave::<E>(turn, pass);

@@ -1,10 +1,11 @@
 //! Calls that spend a reservation.
-ghost use Rattle.std.specs.Prelude.{◌≡◌, ℕ, List, max};
+ghost use Rattle.std.specs.Prelude.{◌≡◌, ℕ, List, max, true, is_some};
 ghost use Rattle.grid_types.specs.declared.capabilities.Cap.{Cap};
 ghost use Rattle.grid_types.specs.declared.entry.Entry.{Entry};
 ghost use Rattle.grid_types.specs.Calls.{Call};
 ghost use Rattle.grid_types.specs.History.{clock};
 ghost use Rattle.grid_types.specs.Tokens.{Reservation};
+ghost use Rattle.hub_core.specs.Ahead.{HasRoomFor};
 ghost use Rattle.hub_core.specs.declared.hub.HubCore.{HubCore};
 ghost use Rattle.hub_core.specs.CoreStands.{Stands, CoreServes, CoreTells};
 ghost use Rattle.hub_core.specs.Replies.{binding_reply, failing_reply, KeepsReservation};
@@ -71,6 +72,7 @@ pub fn bind_told<L: Ledger>(
     ensures told { TellsCall core.old caller (Call.bind reservation session caps) at.0
         (binding_reply result.0) piece.old piece.new result.1 }
     ensures back { KeepsReservation reservation session result.0 }
+    ensures sure { HasRoomFor core.old session → is_some (binding_reply result.0) ≡ true }
 {
     history_laws();
     let now = core.raised(at);

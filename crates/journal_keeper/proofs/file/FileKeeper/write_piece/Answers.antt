@@ -1,6 +1,6 @@
 use Rattle.std.proofs.Common.{arith, ℕ, List, take, subst}
 use Rattle.std.specs.Io.KnownBytes.{Appends}
-use Rattle.journal_keeper.proofs.FileLemmas.{taken_more, a_front}
+use Rattle.journal_keeper.proofs.FileLemmas.{taken_more}
 use Rattle.journal_keeper.proofs.file.FileKeeper.write_piece.Goals as goal
 
 pub loop-preserved : goal.loop-preserved
@@ -10,7 +10,3 @@ loop-preserved g c = record {
   taken = taken_more (g.F.Write.contents c.args.self.now.file) (g.F.Write.contents c.loop.self.file) (g.F.Write.contents c.write.new.self) c.args.piece.now c.loop.at c.in-Ok.count c.loop.invariant.taken
       (subst (λ (l : List ℕ). Appends (g.F.Write.contents c.loop.self.file) (g.F.Write.contents c.write.new.self) (take c.in-Ok.count l)) c.split_at.ensures.back c.in-Ok.ensures.bytes);
 }
-
-pub returns-clause-part : goal.returns-clause-part
-returns-clause-part g c =
-    rw c.failed-2.ensures.file (a_front (g.F.Write.contents c.args.self.now.file) (g.F.Write.contents c.loop.self.file) c.args.piece.now c.loop.at c.loop.invariant.taken)

@@ -1,0 +1,6 @@
+use Rattle.std.proofs.Common.{◌≡◌, ℕ, List, Option, Some, None, ap, ◌∙◌, refl}
+use Rattle.journal_keeper.proofs.HoldsLemmas.{tells_still, piece_goes_on}
+use Rattle.journal_keeper.proofs.whole.keep_told.Goals as goal
+
+pub returns-in-Ok-clause-tells : goal.returns-in-Ok-clause-tells
+returns-in-Ok-clause-tells g c = tells_still (g.K.Keeper.kept c.args.keeper.now) (g.K.Keeper.kept c.keep_all.new.keeper) c.args.piece.now c.keep_all.ensures
