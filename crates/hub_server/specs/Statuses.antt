@@ -3,6 +3,8 @@ use Rattle.std.specs.Prelude.{◌≡◌, ℕ, ◌≤◌, ◌⊎◌, Some}
 use Rattle.std.specs.declared.net.ip_addr.IpAddr.{IpAddr}
 use Rattle.grid_outside.specs.Counts.{Rose}
 use Rattle.grid_outside.specs.Told.{DoorView, NoneFell}
+use Rattle.hub_server.specs.declared.begins.Unbegun.{Unbegun}
+use Rattle.hub_server.specs.declared.begins.Unbegun.TheVariants as unbegun
 
 -- The links ended behind a door that is bound: it was found closed, or it failed, or there was no memory.
 pub record HasRun (old new : DoorView) (status : ℕ) : Type 0 where
@@ -11,12 +13,31 @@ pub record HasRun (old new : DoorView) (status : ℕ) : Type 0 where
   pub later : NoneFell old new
   pub statuses : (status ≡ 0) ⊎ ((status ≡ 3) ⊎ (status ≡ 5))
 
+-- the status where a hub has not begun
+abbrev pub status_of : Unbegun → ℕ
+status_of unbegun.Memory = 5
+status_of unbegun.Failed = 6
+status_of unbegun.Held = 7
+status_of unbegun.NoJournal = 8
+
+-- the status of a program that was not refused: its links ended, or its hub had not begun for one of these reasons
+abbrev pub MayEnd : (Unbegun → Type 0) → ℕ → Type 0
+MayEnd may status =
+    (status ≡ 0) ⊎ ((status ≡ 3) ⊎ ((status ≡ 5) ⊎ ((why : Unbegun) × may why × (status ≡ status_of why))))
+
+-- The links ended behind a door that is bound, or the hub had not begun.
+pub record HasRunOr (may : Unbegun → Type 0) (old new : DoorView) (status : ℕ) : Type 0 where
+  pub closed : status ≡ 0 → Rose old.ends new.ends
+  pub failed : status ≡ 3 → Rose old.faults new.faults
+  pub later : NoneFell old new
+  pub statuses : MayEnd may status
+
 -- The door was set to the address, and bound at the port where that did not fail, and then the links ended behind it.
-pub record HasServed (address : IpAddr) (port : ℕ) (old new : DoorView) (status : ℕ) : Type 0 where
+pub record HasServed (may : Unbegun → Type 0) (address : IpAddr) (port : ℕ) (old new : DoorView) (status : ℕ) : Type 0 where
   pub closed : status ≡ 0 → Rose old.ends new.ends × (new.bound ≡ Some port)
   pub failed : status ≡ 3 → Rose old.faults new.faults
   pub ends : old.ends ≤ new.ends
   pub faults : old.faults ≤ new.faults
   pub bound : (new.bound ≡ old.bound) ⊎ (new.bound ≡ Some port)
   pub host : new.host ≡ Some address
-  pub statuses : (status ≡ 0) ⊎ ((status ≡ 3) ⊎ (status ≡ 5))
+  pub statuses : MayEnd may status

@@ -17,6 +17,7 @@
 #![tactic(auto)]
 
 mod accepting;
+mod begins;
 mod beside;
 mod crowd;
 mod diary;
@@ -26,4 +27,5 @@ mod looping;
 mod passes;
 mod top;
 
-pub use top::hub_main;
+pub use begins::{Begins, NewHub, Unbegun};
+pub use top::{hub_main, hub_main_by};

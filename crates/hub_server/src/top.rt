@@ -7,8 +7,9 @@ ghost use Rattle.server_words.specs.HubOptions.{AreWithin, hub_said};
 ghost use Rattle.server_words.specs.Hosts.{IsHostText, TellsHost, host_said};
 ghost use Rattle.server_words.specs.declared.options.WordsFault.TheVariants as faults;
 ghost use Rattle.grid_outside.specs.Told.{NoneFell};
-ghost use Rattle.hub_server.specs.Statuses.{HasRun, HasServed};
+ghost use Rattle.hub_server.specs.Statuses.{HasRun, HasRunOr, HasServed, MayEnd};
 
+use crate::begins::{Begins, NewHub};
 use crate::beside::{House, serve_beside_house};
 use crate::handling::{DOOR_FAILED, NO_MEMORY};
 use crate::looping::Post;
@@ -156,15 +157,16 @@ fn serve_with_passes<R: Threads + Wait + Sync, D: Door>(
 }
 
 /// Makes the hub, serves the links by loops, and ends the hub.
-fn serve_with_house<R: Threads + Wait + Sync, D: Door>(
+fn serve_with_house<R: Threads + Wait + Sync, D: Door, B: Begins>(
     rt: &R,
     alloc: Global,
     words: &HubWords,
     house: House<D::G, D::C>,
     door: &mut D,
+    beginning: &mut B,
 ) -> u8
     requires within { AreWithin words.now × IsValid words.now.config }
-    ensures { HasRun (D.view door.old) (D.view door.new) result }
+    ensures { HasRunOr B.may (D.view door.old) (D.view door.new) result }
 {
     let loops = loops_for(words.handlers, words.connections, processors(rt));
     let connections = words.connections as usize;
@@ -173,8 +175,9 @@ fn serve_with_house<R: Threads + Wait + Sync, D: Door>(
         Ok(posts) => posts,
         Err(status) => return status,
     };
-    let Ok((hub, first)) = SharedHub::new(rt, alloc, words.config, 0, loops + 1) else {
-        return NO_MEMORY;
+    let (hub, first) = match beginning.begin(rt, alloc, words.config, loops + 1) {
+        Ok(begun) => begun,
+        Err(why) => return why.status(),
     };
     let status = serve_with_passes(rt, alloc, &hub, first, house, posts, door);
     hub.close(rt);
@@ -182,37 +185,39 @@ fn serve_with_house<R: Threads + Wait + Sync, D: Door>(
 }
 
 /// Takes what workers and tickers work with, and serves the links.
-fn serve_hub<R: Threads + Wait + Sync, D: Door>(
+fn serve_hub<R: Threads + Wait + Sync, D: Door, B: Begins>(
     rt: &R,
     alloc: Global,
     words: &HubWords,
     door: &mut D,
+    beginning: &mut B,
 ) -> u8
     requires within { AreWithin words.now × IsValid words.now.config }
-    ensures { HasRun (D.view door.old) (D.view door.new) result }
+    ensures { HasRunOr B.may (D.view door.old) (D.view door.new) result }
 {
     // A worker doesn't know how long a request has waited.
     let start_ms = start_limit(words.config.timeout_ms);
     match house_of(alloc, door, words.workers as usize, start_ms) {
-        Ok(house) => serve_with_house(rt, alloc, words, house, door),
+        Ok(house) => serve_with_house(rt, alloc, words, house, door, beginning),
         Err(status) => status,
     }
 }
 
 /// Binds the door where the words say, and serves the links.
-fn serve_bound<R: Threads + Wait + Sync, D: Door>(
+fn serve_bound<R: Threads + Wait + Sync, D: Door, B: Begins>(
     rt: &R,
     alloc: Global,
     words: &HubWords,
     host: IpAddr,
     door: &mut D,
+    beginning: &mut B,
 ) -> u8
     requires within { AreWithin words.now × IsValid words.now.config }
-    ensures { HasServed host words.now.port (D.view door.old) (D.view door.new) result }
+    ensures { HasServed B.may host words.now.port (D.view door.old) (D.view door.new) result }
 {
     door.listen_at(host);
     match door.bind(words.port) {
-        Ok(()) => serve_hub(rt, alloc, words, door),
+        Ok(()) => serve_hub(rt, alloc, words, door, beginning),
         Err(_) => DOOR_FAILED,
     }
 }
@@ -256,12 +261,41 @@ pub fn hub_main<R: Threads + Wait + Sync, D: Door>(
         × IsSome (D.view door.new).host }
     ensures statuses { (result ≡ 0) ⊎ ((result ≡ 2) ⊎ ((result ≡ 3) ⊎ (result ≡ 5))) }
 {
+    hub_main_by(rt, alloc, words, door, &mut NewHub)
+}
+
+/// The same over a hub that `beginning` makes once the door is bound, for which clients wait meanwhile.
+///
+/// 6: what keeps its journal failed. 7: another hub keeps the same journal. 8: what is kept is no journal from which a hub can
+/// go on. Where there is no hub nothing is served.
+pub fn hub_main_by<R: Threads + Wait + Sync, D: Door, B: Begins>(
+    rt: &R,
+    alloc: Global,
+    words: &[Text],
+    door: &mut D,
+    beginning: &mut B,
+) -> u8
+    ensures closed { result ≡ 0 → Rose (D.view door.old).ends (D.view door.new).ends }
+    ensures misfit { result ≡ 2 → ¬ (TellsHost words.now) }
+    ensures refuses { ¬ (TellsHost words.now) → (result ≡ 2) ⊎ (result ≡ 5) }
+    ensures failed { result ≡ 3 → Rose (D.view door.old).faults (D.view door.new).faults }
+    ensures later { ((D.view door.old).ends ≤ (D.view door.new).ends)
+        × ((D.view door.old).faults ≤ (D.view door.new).faults) }
+    // It listens where the words say, and nowhere else.
+    ensures listens { result ≡ 0 → (D.view door.new).bound ≡ Some (hub_said words.now).port }
+    ensures bound { ((D.view door.new).bound ≡ (D.view door.old).bound)
+        ⊎ ((D.view door.new).bound ≡ Some (hub_said words.now).port) }
+    ensures host { ((result ≡ 2) ⊎ (result ≡ 5)) × ((D.view door.new).host ≡ (D.view door.old).host)
+        ⊎ IfSome (D.view door.new).host (IsHostText (host_said words.now))
+        × IsSome (D.view door.new).host }
+    ensures statuses { (result ≡ 2) ⊎ MayEnd B.may result }
+{
     let told = match hub_words(alloc, words) {
         Ok(told) => told,
         Err(fault) => return refusal_status(fault),
     };
     match hub_host(alloc, words) {
-        Ok(host) => serve_bound(rt, alloc, &told, host, door),
+        Ok(host) => serve_bound(rt, alloc, &told, host, door, beginning),
         Err(fault) => refusal_status(fault),
     }
 }
