@@ -1,5 +1,5 @@
 -- How a check goes on by one entry, by bytes that are read, and to a verdict.
-use Rattle.std.proofs.Common.{◌≡◌, ℕ, suc, ◌+◌, ◌-◌, ◌^◌, ◌<◌, ◌≤◌, min, Bool, true, false, ◌&&◌, nat_le, List, [], ◌∷◌, ◌++◌, length, drop, reverse, flat_map, codes, refl, sym, ◌∙◌, ap, subst, inr, arith, append_assoc, append-nil, length-append}
+use Rattle.std.proofs.Common.{◌≡◌, ℕ, suc, ◌+◌, ◌-◌, ◌^◌, ◌<◌, ◌≤◌, max, min, Bool, true, false, ◌&&◌, nat_le, List, [], ◌∷◌, ◌++◌, length, drop, reverse, flat_map, codes, refl, sym, ◌∙◌, ap, subst, inr, arith, append_assoc, append-nil, length-append}
 use Rattle.std.specs.Prelude.{Option, Some, Result, Ok, Err, is_err, IfOk, OnOk}
 use Rattle.std.proofs.Math.Seq.{drop-append_seam}
 use Rattle.std.proofs.lemmas.Bool.Decides.{nat_tests}
@@ -16,9 +16,10 @@ use Rattle.grid_outside.specs.StreamLaws.{gains_more, rose_later}
 use Rattle.grid_journal.specs.declared.head.HeadStep.TheVariants as head_step
 use Rattle.grid_journal.specs.Spelled.{eight_bytes, four_bytes, flag_byte, change_bytes, entry_bytes, head_bytes, journal_bytes}
 use Rattle.grid_journal.specs.HeadReads.{HeadRead}
+use Rattle.grid_journal.specs.Fits.{AllFit}
 use Rattle.grid_journal.specs.EntryReads.{BeginsEntry, BeginsWithEntry, NoEntry}
 use Rattle.grid_ledger.specs.declared.ledger.GridLedger.{GridLedger}
-use Rattle.grid_ledger.specs.LedgerStands.{Stands, LedgerTells, Notes}
+use Rattle.grid_ledger.specs.LedgerStands.{AtMost, Stands, LedgerTells, Notes, Hears}
 use Rattle.grid_check.specs.declared.feed.Feed.{Feed}
 use Rattle.grid_check.specs.declared.checking.Checking.{Checking}
 use Rattle.grid_check.specs.declared.verdict.Verdict.{Verdict}
@@ -27,8 +28,11 @@ use Rattle.grid_check.specs.declared.verdict.CheckFault.{CheckFault}
 use Rattle.grid_check.specs.declared.checking.Opened.{Opened}
 use Rattle.grid_check.specs.declared.checking.Opened.TheVariants as opened
 use Rattle.grid_check.specs.Feeds.{waiting, Reads}
-use Rattle.grid_check.specs.Verdicts.{IsJournal, most_bytes, tells_end, IsVerdict}
-use Rattle.grid_check.specs.Checks.{Told, HasRead, IsTold, IsOpened, Opens, Goes, GoesOn}
+use Rattle.grid_check.specs.Verdicts.{IsJournal, Leaves, most_bytes, tells_end, IsVerdict}
+use Rattle.grid_check.specs.Checks.{Told, EndsAt, HasRead, IsLeft, IsTold, IsOpened, Opens, Goes, GoesOn}
+use Rattle.grid_check.specs.ReadIn.{HasJournal, IsReadIn}
+use Rattle.grid_check.specs.declared.found.Journal.{Journal}
+use Rattle.grid_check.specs.declared.found.ReadIn.{ReadIn}
 
 -- ---- what is told
 
@@ -77,9 +81,9 @@ bytes_long c H bytes rest is = ap length is ∙ length-append (journal_bytes c H
 pub never_ends : (start now : Told) → false ≡ true → Rose start.ends now.ends
 never_ends start now h = absurd (cc)
 
-pub told_illegal : (start now : Told) (old : Checking) (e : Entry) (n : ℕ) (b : Bool) → HasRead start now old → BeginsWithEntry (waiting old.feed) e n →
+told_illegal : {L : Type 0} (heard : L → List Entry → Type 0) (start now : Told) (old : Checking L) (e : Entry) (n : ℕ) (b : Bool) → HasRead heard start now old → BeginsWithEntry (waiting old.feed) e n →
     LedgerTells old.ledger (λ H. b ≡ permitted old.ledger.config H e.caller e.change) → b ≡ false → IsTold start now (verdict.Illegal old.entries)
-told_illegal start now old e n b r w tells is = record {
+told_illegal heard start now old e n b r w tells is = record {
   bytes = r.bytes;
   gains = r.gains;
   says = record {
@@ -101,8 +105,8 @@ told_illegal start now old e n b r w tells is = record {
   end_told = λ h. absurd (cc);
 }
 
-pub told_bad : (start now : Told) (old : Checking) → HasRead start now old → NoEntry (waiting old.feed) → IsTold start now (verdict.Bad old.feed.taken)
-told_bad start now old r none = record {
+told_bad : {L : Type 0} (heard : L → List Entry → Type 0) (start now : Told) (old : Checking L) → HasRead heard start now old → NoEntry (waiting old.feed) → IsTold start now (verdict.Bad old.feed.taken)
+told_bad heard start now old r none = record {
   bytes = r.bytes;
   gains = r.gains;
   says = record { config = old.ledger.config; history = r.history; rest = waiting old.feed; journal = r.journal; place = r.place; none_begins = none };
@@ -112,9 +116,9 @@ told_bad start now old r none = record {
 all_there : (have most : ℕ) → nat_le most have ≡ true → have ≤ most → have ≡ most
 all_there have most h l = grind (arith, nat_tests)
 
-pub told_limit : (start now : Told) (old : Checking) → HasRead start now old → BeginsEntry (waiting old.feed) → nat_le (2 ^ 40) (old.feed.taken + length (waiting old.feed)) ≡ true →
+told_limit : {L : Type 0} (heard : L → List Entry → Type 0) (start now : Told) (old : Checking L) → HasRead heard start now old → BeginsEntry (waiting old.feed) → nat_le (2 ^ 40) (old.feed.taken + length (waiting old.feed)) ≡ true →
     old.feed.taken + length (waiting old.feed) ≤ 2 ^ 40 → IsTold start now verdict.Limit
-told_limit start now old r begins full most = record {
+told_limit heard start now old r begins full most = record {
   bytes = r.bytes;
   gains = r.gains;
   says = record {
@@ -132,12 +136,12 @@ none_there : (xs : List ℕ) → length xs ≡ 0 → xs ≡ []
 none_there [] h = refl
 none_there (x ∷ xs) h = absurd (omega (arith, h))
 
-few_bytes : (start now : Told) (old : Checking) (r : HasRead start now old) → old.feed.taken + length (waiting old.feed) < most_bytes → length r.bytes < most_bytes
-few_bytes start now old r room = omega (arith, bytes_long old.ledger.config r.history r.bytes (waiting old.feed) r.journal.spelled, r.place, room)
+few_bytes : {L : Type 0} (heard : L → List Entry → Type 0) (start now : Told) (old : Checking L) (r : HasRead heard start now old) → old.feed.taken + length (waiting old.feed) < most_bytes → length r.bytes < most_bytes
+few_bytes heard start now old r room = omega (arith, bytes_long old.ledger.config r.history r.bytes (waiting old.feed) r.journal.spelled, r.place, room)
 
-pub told_legal : (start now : Told) (old : Checking) → HasRead start now old → LegalHistoriesAreSafe → old.feed.ended ≡ true → old.feed.taken + length (waiting old.feed) < most_bytes →
+told_legal : {L : Type 0} (heard : L → List Entry → Type 0) (start now : Told) (old : Checking L) → HasRead heard start now old → LegalHistoriesAreSafe → old.feed.ended ≡ true → old.feed.taken + length (waiting old.feed) < most_bytes →
     length (waiting old.feed) ≡ 0 → IsTold start now (verdict.Legal old.entries)
-told_legal start now old r safe ended room none = record {
+told_legal heard start now old r safe ended room none = record {
   bytes = r.bytes;
   gains = r.gains;
   says = record {
@@ -146,18 +150,52 @@ told_legal start now old r safe ended room none = record {
     journal = subst (λ (rest : List ℕ). IsJournal old.ledger.config r.history r.bytes rest) (none_there _ none) r.journal;
     is_safe = safe old.ledger.config r.history r.journal.is_legal;
     count = r.count;
-    few = few_bytes start now old r room;
+    few = few_bytes heard start now old r room;
   };
   end_told = λ h. r.end_told ended;
 }
 
-pub told_cut : (start now : Told) (old : Checking) → HasRead start now old → BeginsEntry (waiting old.feed) → old.feed.ended ≡ true → old.feed.taken + length (waiting old.feed) < most_bytes →
+told_cut : {L : Type 0} (heard : L → List Entry → Type 0) (start now : Told) (old : Checking L) → HasRead heard start now old → BeginsEntry (waiting old.feed) → old.feed.ended ≡ true → old.feed.taken + length (waiting old.feed) < most_bytes →
     1 ≤ length (waiting old.feed) → IsTold start now (verdict.Cut old.feed.taken)
-told_cut start now old r begins ended room some = record {
+told_cut heard start now old r begins ended room some = record {
   bytes = r.bytes;
   gains = r.gains;
-  says = inr (record { config = old.ledger.config; history = r.history; rest = waiting old.feed; journal = r.journal; place = r.place; some = some; begins = begins; few = few_bytes start now old r room });
+  says = inr (record { config = old.ledger.config; history = r.history; rest = waiting old.feed; journal = r.journal; place = r.place; some = some; begins = begins; few = few_bytes heard start now old r room });
   end_told = λ h. r.end_told ended;
+}
+
+-- ---- how a check ends
+
+-- at a verdict on input that goes on
+goes_ends : {L : Type 0} (heard : L → List Entry → Type 0) (start now : Told) (checking : Checking L) (v : Verdict) → IsTold start now v → tells_end v ≡ false → EndsAt heard start now checking v
+goes_ends heard start now checking v told on = record { is_told = told; is_left = λ e. absurd (differ (sym e ∙ on)) }
+  where
+    differ : true ≡ false → ⊥
+    differ h = cc
+
+pub ends_illegal : {L : Type 0} (heard : L → List Entry → Type 0) (start now : Told) (old : Checking L) (e : Entry) (n : ℕ) (b : Bool) → HasRead heard start now old → BeginsWithEntry (waiting old.feed) e n →
+    LedgerTells old.ledger (λ H. b ≡ permitted old.ledger.config H e.caller e.change) → b ≡ false → EndsAt heard start now old (verdict.Illegal old.entries)
+ends_illegal heard start now old e n b r w tells is = goes_ends heard start now old (verdict.Illegal old.entries) (told_illegal heard start now old e n b r w tells is) refl
+
+pub ends_bad : {L : Type 0} (heard : L → List Entry → Type 0) (start now : Told) (old : Checking L) → HasRead heard start now old → NoEntry (waiting old.feed) → EndsAt heard start now old (verdict.Bad old.feed.taken)
+ends_bad heard start now old r none = goes_ends heard start now old (verdict.Bad old.feed.taken) (told_bad heard start now old r none) refl
+
+pub ends_limit : {L : Type 0} (heard : L → List Entry → Type 0) (start now : Told) (old : Checking L) → HasRead heard start now old → BeginsEntry (waiting old.feed) →
+    nat_le (2 ^ 40) (old.feed.taken + length (waiting old.feed)) ≡ true → old.feed.taken + length (waiting old.feed) ≤ 2 ^ 40 → EndsAt heard start now old verdict.Limit
+ends_limit heard start now old r begins full most = goes_ends heard start now old verdict.Limit (told_limit heard start now old r begins full most) refl
+
+pub ends_legal : {L : Type 0} (heard : L → List Entry → Type 0) (start now : Told) (old : Checking L) → HasRead heard start now old → LegalHistoriesAreSafe → old.feed.ended ≡ true →
+    old.feed.taken + length (waiting old.feed) < most_bytes → length (waiting old.feed) ≡ 0 → EndsAt heard start now old (verdict.Legal old.entries)
+ends_legal heard start now old r safe ended room none = record {
+  is_told = told_legal heard start now old r safe ended room none;
+  is_left = λ e. record { has_read = r; leaves = (refl, none_there _ none) };
+}
+
+pub ends_cut : {L : Type 0} (heard : L → List Entry → Type 0) (start now : Told) (old : Checking L) → HasRead heard start now old → BeginsEntry (waiting old.feed) → old.feed.ended ≡ true →
+    old.feed.taken + length (waiting old.feed) < most_bytes → 1 ≤ length (waiting old.feed) → EndsAt heard start now old (verdict.Cut old.feed.taken)
+ends_cut heard start now old r begins ended room some = record {
+  is_told = told_cut heard start now old r begins ended room some;
+  is_left = λ e. record { has_read = r; leaves = (refl, some, begins) };
 }
 
 -- ---- one entry more
@@ -176,11 +214,19 @@ counted_more count now taken length_before is few most goes = omega (arith, is, 
 few_more : (count now taken later n : ℕ) → count ≤ taken → now ≡ min (count + 1) (2 ^ 64 - 1) → later ≡ taken + n → 1 ≤ n → now ≤ later
 few_more count now taken later n few goes on some = omega (arith, few, goes, on, some)
 
-pub goes_by_entry : (start now : Told) (old new : Checking) (e : Entry) (n : ℕ) (b : Bool) → HasRead start now old → BeginsWithEntry (waiting old.feed) e n →
+all_at_most : (old new : ℕ) (H : List Entry) → old ≤ new → AllFit (AtMost old) H → AllFit (AtMost new) H
+all_at_most old new [] less all = all
+all_at_most old new (e ∷ H) less (here, there) = (omega (arith, here, less), all_at_most old new H less there)
+
+callers_more : (old new : ℕ) (e : Entry) (H : List Entry) → new ≡ max old e.caller → AllFit (AtMost old) H → AllFit (AtMost new) (e ∷ H)
+callers_more old new e H is all = (omega (arith, is), all_at_most old new H (omega (arith, is)) all)
+
+pub goes_by_entry : {L : Type 0} (heard : L → List Entry → Type 0) (start now : Told) (old new : Checking L) (e : Entry) (n : ℕ) (b : Bool) → HasRead heard start now old → BeginsWithEntry (waiting old.feed) e n →
     LedgerTells old.ledger (λ H. b ≡ permitted old.ledger.config H e.caller e.change) → b ≡ true → Notes old.ledger new.ledger e.caller e.change →
+    Hears heard old.listener new.listener old.ledger e.caller e.change → new.most_caller ≡ max old.most_caller e.caller →
     waiting new.feed ≡ drop n (waiting old.feed) → new.feed.taken ≡ old.feed.taken + n → new.feed.ended ≡ old.feed.ended →
-    new.entries ≡ min (old.entries + 1) (2 ^ 64 - 1) → old.feed.taken ≤ 2 ^ 40 → HasRead start now new
-goes_by_entry start now old new e n b r w tells is notes left taken ended counted most =
+    new.entries ≡ min (old.entries + 1) (2 ^ 64 - 1) → old.feed.taken ≤ 2 ^ 40 → HasRead heard start now new
+goes_by_entry heard start now old new e n b r w tells is notes hears most_is left taken ended counted most =
     let c = old.ledger.config in
     let H = r.history in
     let allowed : permitted c H e.caller e.change ≡ true = sym (tells.of H r.stands) ∙ is in
@@ -202,6 +248,8 @@ goes_by_entry start now old new e n b r w tells is notes left taken ended counte
       gains = r.gains;
       journal = subst (λ (d : HubConfig). IsJournal d (e ∷ H) r.bytes (waiting new.feed)) (sym same) journal;
       stands = notes.after H r.stands lawful;
+      was_heard = hears.goes H r.stands lawful r.was_heard;
+      callers = callers_more old.most_caller new.most_caller e H most_is r.callers;
       place = subst (λ (d : HubConfig). new.feed.taken ≡ length (journal_bytes d (e ∷ H))) (sym same) place;
       count = counted_more old.entries new.entries old.feed.taken (length H) r.count r.few most counted;
       few = few_more old.entries new.entries old.feed.taken new.feed.taken n r.few counted taken one;
@@ -211,9 +259,10 @@ goes_by_entry start now old new e n b r w tells is notes left taken ended counte
 
 -- ---- bytes that are read
 
-pub goes_by_bytes : (start before now : Told) (old new : Checking) → HasRead start before old → new.ledger ≡ old.ledger → new.entries ≡ old.entries →
-    Reads old.feed new.feed before.given now.given → (new.feed.ended ≡ true → Rose before.ends now.ends) → before.ends ≤ now.ends → HasRead start now new
-goes_by_bytes start before now old new r same entries reads ends later =
+pub goes_by_bytes : {L : Type 0} (heard : L → List Entry → Type 0) (start before now : Told) (old new : Checking L) → HasRead heard start before old → new.ledger ≡ old.ledger → new.entries ≡ old.entries →
+    new.listener ≡ old.listener → new.most_caller ≡ old.most_caller →
+    Reads old.feed new.feed before.given now.given → (new.feed.ended ≡ true → Rose before.ends now.ends) → before.ends ≤ now.ends → HasRead heard start now new
+goes_by_bytes heard start before now old new r same entries same_listener same_most reads ends later =
     let c = old.ledger.config in
     let journal : IsJournal c r.history (r.bytes ++ reads.bytes) (waiting new.feed) = record {
       config_fits = r.journal.config_fits;
@@ -229,6 +278,8 @@ goes_by_bytes start before now old new r same entries reads ends later =
       gains = gains_more start.given before.given now.given r.bytes reads.bytes r.gains reads.gains;
       journal = subst (λ (l : GridLedger). IsJournal l.config r.history (r.bytes ++ reads.bytes) (waiting new.feed)) (sym same) journal;
       stands = subst (λ (l : GridLedger). Stands l r.history) (sym same) r.stands;
+      was_heard = subst (λ l. heard l r.history) (sym same_listener) r.was_heard;
+      callers = subst (λ (most : ℕ). AllFit (AtMost most) r.history) (sym same_most) r.callers;
       place = subst (λ (l : GridLedger). new.feed.taken ≡ length (journal_bytes l.config r.history)) (sym same) (reads.taken ∙ r.place);
       count = entries ∙ r.count;
       few = omega (arith, entries, r.few, reads.taken);
@@ -238,8 +289,8 @@ goes_by_bytes start before now old new r same entries reads ends later =
 
 -- ---- the beginning
 
-pub begins_check : (start now : Told) (checking : Checking) (c : HubConfig) → IsOpened start now checking.feed c → Stands checking.ledger [] → checking.ledger.config ≡ c → checking.entries ≡ 0 → HasRead start now checking
-begins_check start now checking c o stands same none =
+pub begins_check : {L : Type 0} (heard : L → List Entry → Type 0) (start now : Told) (checking : Checking L) (c : HubConfig) → IsOpened start now checking.feed c → Stands checking.ledger [] → checking.ledger.config ≡ c → checking.entries ≡ 0 → heard checking.listener [] → HasRead heard start now checking
+begins_check heard start now checking c o stands same none heard_none =
     let whole : head_bytes c ++ waiting checking.feed ≡ journal_bytes c [] ++ waiting checking.feed = ap (λ (x : List ℕ). x ++ waiting checking.feed) (sym (journal_none c)) in
     let journal : IsJournal c [] (head_bytes c ++ waiting checking.feed) (waiting checking.feed) = record {
       config_fits = o.config_fits;
@@ -254,6 +305,8 @@ begins_check start now checking c o stands same none =
       gains = o.gains;
       journal = subst (λ (d : HubConfig). IsJournal d [] (head_bytes c ++ waiting checking.feed) (waiting checking.feed)) (sym same) journal;
       stands = stands;
+      was_heard = heard_none;
+      callers = tt;
       place = o.taken ∙ ap length (sym (journal_none c)) ∙ ap (λ (d : HubConfig). length (journal_bytes d [])) (sym same);
       count = none;
       few = omega (arith, none);
@@ -279,18 +332,30 @@ reads_on a b d t u v p q = record {
   taken = q.taken ∙ p.taken;
 }
 
-pub told_of_goes : (before now start : Told) (old new : Checking) (found : Option Verdict) (v : Verdict) → GoesOn before now old new found → found ≡ Some v → HasRead start before old → IsTold start now v
-told_of_goes before now start old new found v goes is r = subst (λ (f : Option Verdict). Goes start now new f) is (goes start r)
+pub ends_of_goes : {L : Type 0} (heard : L → List Entry → Type 0) (before now start : Told) (old new : Checking L) (found : Option Verdict) (v : Verdict) → GoesOn heard before now old new found → found ≡ Some v →
+    HasRead heard start before old → EndsAt heard start now new v
+ends_of_goes heard before now start old new found v goes is r = subst (λ (f : Option Verdict). Goes heard start now new f) is (goes start r)
 
-pub verdict_said : (start before now : Told) (checking : Checking) (r : Result Verdict CheckFault) →
-    IfOk r (λ v. (s : Told) → HasRead s before checking → IsTold s now v) → HasRead start before checking → IfOk r (λ v. IsVerdict start.given now.given v)
-verdict_said start before now checking (Ok v) goes h = told_verdict start now v (goes start h)
-verdict_said start before now checking (Err e) goes h = goes
-
-pub verdict_ended : (start before now : Told) (checking : Checking) (r : Result Verdict CheckFault) →
-    IfOk r (λ v. (s : Told) → HasRead s before checking → IsTold s now v) → HasRead start before checking → IfOk r (λ v. tells_end v ≡ true → Rose start.ends now.ends)
-verdict_ended start before now checking (Ok v) goes h = (goes start h).end_told
-verdict_ended start before now checking (Err e) goes h = goes
+-- what is handed out
+pub hands_out : {L : Type 0} (heard : L → List Entry → Type 0) (start now : Told) (checking : Checking L) (v : Verdict) (found : Journal L) → IsLeft heard start now checking v → found.ledger ≡ checking.ledger →
+    found.entries ≡ checking.entries → found.most_caller ≡ checking.most_caller → found.whole ≡ checking.feed.taken → found.listener ≡ checking.listener →
+    HasJournal heard start.given now.given v found
+hands_out heard start now checking v found left same_ledger same_entries same_most same_whole same_listener =
+    let r = left.has_read in
+    record {
+      history = r.history;
+      bytes = r.bytes;
+      rest = waiting checking.feed;
+      gains = r.gains;
+      journal = subst (λ (l : GridLedger). IsJournal l.config r.history r.bytes (waiting checking.feed)) (sym same_ledger) r.journal;
+      stands = subst (λ (l : GridLedger). Stands l r.history) (sym same_ledger) r.stands;
+      was_heard = subst (λ l. heard l r.history) (sym same_listener) r.was_heard;
+      callers = subst (λ (most : ℕ). AllFit (AtMost most) r.history) (sym same_most) r.callers;
+      count = same_entries ∙ r.count;
+      place = same_whole ∙ r.place ∙ ap (λ (l : GridLedger). length (journal_bytes l.config r.history)) (sym same_ledger);
+      leaves = subst (λ (n : ℕ). Leaves v found.entries n (waiting checking.feed)) (sym same_whole)
+          (subst (λ (n : ℕ). Leaves v n checking.feed.taken (waiting checking.feed)) (sym same_entries) left.leaves);
+    }
 
 -- a head was opened with this configuration
 pub opened_with : (start now : Told) (feed : Feed) (found : Opened) (c : HubConfig) → Opens start now feed found → found ≡ opened.Config c → IsOpened start now feed c

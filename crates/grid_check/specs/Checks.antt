@@ -6,15 +6,15 @@ use Rattle.grid_types.specs.Config.{IsValid}
 use Rattle.grid_outside.specs.Counts.{Rose}
 use Rattle.grid_outside.specs.Told.{Gains}
 use Rattle.grid_journal.specs.Spelled.{head_bytes, journal_bytes}
-use Rattle.grid_journal.specs.Fits.{ConfigFits}
+use Rattle.grid_journal.specs.Fits.{AllFit, ConfigFits}
 use Rattle.grid_check.specs.declared.feed.Feed.{Feed}
 use Rattle.grid_check.specs.declared.verdict.Verdict.{Verdict}
 use Rattle.grid_check.specs.declared.checking.Checking.{Checking}
 use Rattle.grid_check.specs.declared.checking.Opened.{Opened}
 use Rattle.grid_check.specs.declared.checking.Opened.TheVariants as opened
 use Rattle.grid_check.specs.Feeds.{waiting}
-use Rattle.grid_ledger.specs.LedgerStands.{Stands}
-use Rattle.grid_check.specs.Verdicts.{IsJournal, Says, most_bytes, tells_end}
+use Rattle.grid_ledger.specs.LedgerStands.{AtMost, Stands}
+use Rattle.grid_check.specs.Verdicts.{IsJournal, Leaves, LeavesNone, Says, most_bytes, tells_end}
 
 -- what a source tells: the bytes that it has given, and how often it has ended
 pub record Told : Type 0 where
@@ -28,13 +28,16 @@ told given ends = record { given = given; ends = ends }
 abbrev pub EndWasTold : Told → Told → Feed → Type 0
 EndWasTold start now feed = feed.ended ≡ true → Rose start.ends now.ends
 
--- since the start the source gave the journal of a legal history, for which the ledger stands, and the bytes that wait
-pub record HasRead (start now : Told) (checking : Checking) : Type 0 where
+-- since the start the source gave the journal of a legal history, for which the ledger stands and of which the listener was told,
+-- and the bytes that wait
+pub record HasRead {L : Type 0} (heard : L → List Entry → Type 0) (start now : Told) (checking : Checking L) : Type 0 where
   pub history : List Entry
   pub bytes : List ℕ
   pub gains : Gains start.given now.given bytes
   pub journal : IsJournal checking.ledger.config history bytes (waiting checking.feed)
   pub stands : Stands checking.ledger history
+  pub was_heard : heard checking.listener history
+  pub callers : AllFit (AtMost checking.most_caller) history
   pub place : checking.feed.taken ≡ length (journal_bytes checking.ledger.config history)
   pub count : checking.entries ≡ length history
   pub few : checking.entries ≤ checking.feed.taken
@@ -48,14 +51,24 @@ pub record IsTold (start now : Told) (v : Verdict) : Type 0 where
   pub says : Says v bytes
   pub end_told : tells_end v ≡ true → Rose start.ends now.ends
 
+-- what a check at its end has, of which this is the verdict
+pub record IsLeft {L : Type 0} (heard : L → List Entry → Type 0) (start now : Told) (checking : Checking L) (v : Verdict) : Type 0 where
+  pub has_read : HasRead heard start now checking
+  pub leaves : Leaves v checking.entries checking.feed.taken (waiting checking.feed)
+
+-- how a check ends with a verdict: where this is one on input that has ended, the check has read it
+pub record EndsAt {L : Type 0} (heard : L → List Entry → Type 0) (start now : Told) (checking : Checking L) (v : Verdict) : Type 0 where
+  pub is_told : IsTold start now v
+  pub is_left : tells_end v ≡ true → IsLeft heard start now checking v
+
 -- how a check goes on that has no verdict yet, or one
-abbrev pub Goes : Told → Told → Checking → Option Verdict → Type 0
-Goes start now checking None = HasRead start now checking
-Goes start now checking (Some v) = IsTold start now v
+abbrev pub Goes : {L : Type 0} → (L → List Entry → Type 0) → Told → Told → Checking L → Option Verdict → Type 0
+Goes heard start now checking None = HasRead heard start now checking
+Goes heard start now checking (Some v) = EndsAt heard start now checking v
 
 -- whatever the start was, a check that stood so far goes on
-abbrev pub GoesOn : Told → Told → Checking → Checking → Option Verdict → Type 0
-GoesOn before now old new found = (start : Told) → HasRead start before old → Goes start now new found
+abbrev pub GoesOn : {L : Type 0} → (L → List Entry → Type 0) → Told → Told → Checking L → Checking L → Option Verdict → Type 0
+GoesOn heard before now old new found = (start : Told) → HasRead heard start before old → Goes heard start now new found
 
 -- what is left to do: each byte that may come is read and taken off, and the end is told once
 abbrev pub left_of : Feed → ℕ
@@ -77,4 +90,4 @@ pub record IsOpened (start now : Told) (feed : Feed) (c : HubConfig) : Type 0 wh
 -- what is found at the front of the input
 abbrev pub Opens : Told → Told → Feed → Opened → Type 0
 Opens start now feed (opened.Config c) = IsOpened start now feed c
-Opens start now feed (opened.Ends v) = IsTold start now v
+Opens start now feed (opened.Ends v) = IsTold start now v × LeavesNone v

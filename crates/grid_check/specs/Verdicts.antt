@@ -96,6 +96,19 @@ tells_end (verdict.Legal entries) = true
 tells_end (verdict.Cut at) = true
 tells_end v = false
 
+-- what a verdict on input that has ended says of the whole entries: so many they are, or so many bytes they take with the head,
+-- and a part of another stands behind them
+abbrev pub Leaves : Verdict → ℕ → ℕ → List ℕ → Type 0
+Leaves (verdict.Legal number) entries whole rest = (number ≡ entries) × (rest ≡ [])
+Leaves (verdict.Cut at) entries whole rest = (at ≡ whole) × (1 ≤ length rest) × BeginsEntry rest
+Leaves v entries whole rest = ⊥
+
+-- nothing is left of input of which this is the verdict: it has not ended, or inside a head
+abbrev pub LeavesNone : Verdict → Type 0
+LeavesNone (verdict.Legal entries) = ⊥
+LeavesNone (verdict.Cut at) = at ≡ 0
+LeavesNone v = Unit {0}
+
 -- the bytes that were given since, of which the verdict says what it says
 pub record IsVerdict (old new : Option (List ℕ)) (v : Verdict) : Type 0 where
   pub bytes : List ℕ

@@ -14,6 +14,7 @@
 
 mod checking;
 mod feed;
+mod found;
 mod laws;
 mod lines;
 mod making;
@@ -22,7 +23,8 @@ mod top;
 mod verdict;
 mod writing;
 
-pub use checking::check;
+pub use checking::{check, read_in};
+pub use found::{Journal, ReadIn};
 pub use laws::texts_have_one_verdict;
 pub use making::make_journal;
 pub use telling::run_check;

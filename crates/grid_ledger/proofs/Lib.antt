@@ -1,4 +1,5 @@
 mod BoolLemmas
 mod FactLemmas
 mod NoteLemmas
+mod OpenLemmas
 mod SlotLemmas

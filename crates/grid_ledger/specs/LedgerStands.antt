@@ -39,6 +39,15 @@ pub record Keeps (old new : GridLedger) : Type 0 where
   pub same_config : new.config ≡ old.config
   pub still : (H : List Entry) → Stands old H → Stands new H
 
+-- What a listener has heard goes on by this change, behind each history that the ledger stands for and that the change may
+-- follow.
+pub record Hears {L : Type 0} (heard : L → List Entry → Type 0) (old new : L) (ledger : GridLedger) (caller : ℕ) (change : Change) : Type 0 where
+  pub goes : (H : List Entry) → Stands ledger H → legal ledger.config (entry caller change ∷ H) ≡ true → heard old H → heard new (entry caller change ∷ H)
+
+-- no entry has a caller of a greater number
+abbrev pub AtMost : ℕ → Entry → Type 0
+AtMost most e = e.caller ≤ most
+
 -- what a ledger needs of a change that it notes: a node has no more slots than it may have
 abbrev pub MayNote : Change → Type 0
 MayNote (change.Registered n r at) = length (stereotypes r.groups) ≤ MOST_SLOTS

@@ -1,1 +1,2 @@
 pub mod LedgerStands
+pub mod Open

@@ -9,11 +9,13 @@ ghost use Rattle.session_map.specs.Table as of_session;
 ghost use Rattle.grid_ledger.specs.LedgerStands.{Stands, Keeps, LedgerTells};
 
 mod changes;
+mod looks;
 mod nodes;
 mod permits;
 mod requests;
 mod sessions;
 mod starts;
+mod tables;
 
 use grid_types::{HubConfig, Moment, NodeNo, ReqNo};
 use node_registry::NodeTable;

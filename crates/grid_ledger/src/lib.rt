@@ -12,5 +12,7 @@
 #![tactic(auto)]
 
 mod ledger;
+mod listener;
 
 pub use ledger::GridLedger;
+pub use listener::{Listener, NoListener};

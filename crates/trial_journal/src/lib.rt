@@ -1,10 +1,14 @@
-//! Trials of simulations, and of the check of a journal.
+//! Trials of simulations, of the check of a journal, and of what a journal tells of a farm.
 #![tactic(auto)]
 
 #[cfg(test)]
 mod entries;
 #[cfg(test)]
+mod openings;
+#[cfg(test)]
 mod plays;
+#[cfg(test)]
+mod reports;
 #[cfg(test)]
 mod simulations;
 #[cfg(test)]

@@ -176,13 +176,20 @@ impl GridLedger {
         }
     }
 
+    /// Whether a failure of the start that the request is held for settles it.
+    pub fn is_last(&self, request: ReqNo) -> bool
+        ensures { LedgerTells self.now (λ H. (slot : SlotId) → holder H slot ≡ held request →
+            result ≡ is_last H request slot) }
+    {
+        counted_last::<Brand>(&self.nodes, &self.requests, request, Blank::new(1))
+    }
+
     /// Whether it is told rightly that the failure settles the request.
     fn is_last_as(&self, request: ReqNo, last: bool) -> bool
         ensures { LedgerTells self.now (λ H. (slot : SlotId) → holder H slot ≡ held request →
             result ≡ bool_eq last (is_last H request slot)) }
     {
-        let is_last = counted_last::<Brand>(&self.nodes, &self.requests, request, Blank::new(1));
-        last == is_last
+        last == self.is_last(request)
     }
 
     /// A caller gives the slot up that it has for the request, for a cause that there is, and it is told rightly whether

@@ -6,12 +6,15 @@ use Rattle.grid_check.proofs.CheckLemmas.{cut_head_short}
 use Rattle.grid_check.proofs.checking.open.Goals as goal
 
 pub returns-in-NotJournal-clause-opens : goal.returns-in-NotJournal-clause-opens
-returns-in-NotJournal-clause-opens g c = record {
-  bytes = waiting c.pieces.feed;
-  gains = c.pieces.invariant.gains;
-  says = subst (λ (b : List ℕ). HeadRead b head_step.NotJournal) c.waiting.ensures c.in-NotJournal.ensures;
-  end_told = λ h. absurd (cc);
-}
+returns-in-NotJournal-clause-opens g c = (
+  record {
+    bytes = waiting c.pieces.feed;
+    gains = c.pieces.invariant.gains;
+    says = subst (λ (b : List ℕ). HeadRead b head_step.NotJournal) c.waiting.ensures c.in-NotJournal.ensures;
+    end_told = λ h. absurd (cc);
+  },
+  tt,
+)
 
 pub refill-requires-clause-room : goal.refill-requires-clause-room
 refill-requires-clause-room g c =

@@ -1,0 +1,17 @@
+//! Why an opening does not go on.
+
+/// Why an opening does not go on. Where it ends so, the journal holds what was put behind it, and another opening goes on from
+/// there.
+#[derive(Clone, Copy, Debug, PartialEq, Eq)]
+pub enum OpeningFault {
+    /// An entry was not kept, or only a part of it.
+    Unkept,
+    /// There was no memory.
+    Memory,
+    /// An entry could not be read again, since its moment is past the last one that there is.
+    Late,
+    /// Something is still open.
+    Open,
+    /// A caller has the greatest number that there is, so that none is left for a pass.
+    Numbers,
+}

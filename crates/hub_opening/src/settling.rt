@@ -1,0 +1,50 @@
+//! From what was read of a journal to a hub that threads share.
+ghost use Rattle.std.specs.Prelude.{◌≡◌, ◌+◌, ◌≤◌, IfOk};
+ghost use Rattle.grid_types.specs.Config.{IsValid};
+ghost use Rattle.hub_cell.specs.Passes.{IsOf, core_of, spares_of};
+ghost use Rattle.hub_opening.specs.Handed.{GoesOnFrom, IsRead};
+
+use crate::going::go_on;
+use grid_ledger::GridLedger;
+use grid_opening::{Ender, Opening, OpeningFault};
+use grid_replay::Replay;
+use grid_types::Moment;
+use hub_cell::{Pass, SharedHub};
+use journal_keeper::Keeping;
+use std::alloc::Global;
+use std::sync::Wait;
+
+/// The hub that goes on from the journal which was read, for so many passes, and its first pass: what was under way is settled at
+/// the moment by entries behind it, under the numbers of those that had it.
+///
+/// # Errors
+/// As those of `Opening`, and `Memory`. What the journal has then is legal, and another opening goes on from there.
+pub fn settle_and_go_on<R: Wait, E: Ender<Replay>>(
+    rt: &R,
+    alloc: Global,
+    ledger: GridLedger,
+    listener: Replay,
+    keeping: Keeping,
+    most_caller: u64,
+    ender: &mut E,
+    at: Moment,
+    passes: u32,
+) -> Result<(SharedHub, Pass), OpeningFault>
+    requires valid { IsValid ledger.config }
+    requires read { IsRead ledger listener keeping most_caller }
+    requires passes { (1 ≤ passes) × (passes ≤ 256) }
+    ensures own { IfOk result (λ r. IsOf r.0 r.1) }
+    ensures pass { IfOk result (λ r. spares_of r.1 + 1 ≡ passes) }
+    ensures config { IfOk result (λ r. (core_of r.0).config ≡ ledger.config) }
+    ensures goes_on { IfOk result (λ r.
+        GoesOnFrom ledger listener keeping most_caller (core_of r.0)) }
+{
+    let mut opening = Opening::new(alloc, ledger, listener, keeping, most_caller);
+    opening.settle(at)?;
+    opening.refresh(ender, at)?;
+    let settled = opening.finish()?;
+    match go_on(rt, alloc, settled, passes) {
+        Ok(begun) => Ok(begun),
+        Err(_) => Err(OpeningFault::Memory),
+    }
+}

@@ -1,0 +1,68 @@
+//! A hub that goes on from a front of a journal, wherever that ends.
+use crate::entries::ENTRIES;
+use crate::plays::{front_of, journal, verdict};
+use grid_check::{Journal, Verdict, read_in};
+use grid_ledger::NoListener;
+use grid_opening::{NoEnder, Opening, Settled};
+use grid_outside::MemSource;
+use grid_types::{Bytes, Moment, NoMemory};
+use journal_keeper::{Keeper, MemKeeper};
+use std::alloc::Global;
+use std::test::Fail;
+
+/// What stands for the whole entries at the front of the bytes.
+fn read(alloc: Global, bytes: &[u8]) -> Option<Journal<NoListener>> {
+    let mut input = MemSource::new(Bytes::of(alloc, bytes).ok()?, 64, Vec::new(alloc));
+    read_in(alloc, &mut input, NoListener).ok()?.journal
+}
+
+/// A file with the whole entries at the front of the bytes, of which the call with the number of `fails` does.
+fn kept(alloc: Global, bytes: &[u8], whole: u64, fails: u64) -> Option<MemKeeper> {
+    let mut planned = Vec::new(alloc);
+    planned.push(fails).ok()?;
+    let mut keeper = MemKeeper::new(alloc, 7, planned);
+    keeper.append(front_of(bytes, whole as usize)).ok()?;
+    Some(keeper)
+}
+
+/// What the opening of the bytes leaves.
+fn opened(alloc: Global, bytes: &[u8], fails: u64) -> Option<Settled<MemKeeper, NoListener>> {
+    let found = read(alloc, bytes)?;
+    let keeper = kept(alloc, bytes, found.whole, fails)?;
+    let at = Moment(found.ledger.clock().0.saturating_add(1));
+    let mut opening = Opening::new(
+        alloc,
+        found.ledger,
+        found.listener,
+        keeper,
+        found.most_caller,
+    );
+    opening.settle(at).ok()?;
+    opening.refresh(&mut NoEnder, at).ok()?;
+    opening.finish().ok()
+}
+
+/// Whether the opening of the bytes leaves a legal journal with nothing open.
+fn opens(alloc: Global, bytes: &[u8]) -> bool {
+    match opened(alloc, bytes, u64::MAX) {
+        Some(settled) => matches!(
+            verdict(alloc, settled.keeper.bytes(), 64),
+            Some(Verdict::Legal { .. })
+        ),
+        None => false,
+    }
+}
+
+#[test]
+fn each_front_behind_the_head_is_opened(rt: HostRuntime) -> Result<(), Fail> {
+    let alloc = rt.alloc();
+    let bytes = journal(alloc, ENTRIES).ok_or(NoMemory)?;
+    let mut opened: usize = 0;
+    for count in 57..bytes.len() + 1 {
+        if opens(alloc, front_of(bytes.as_slice(), count)) {
+            opened = opened.saturating_add(1);
+        }
+    }
+    assert_eq!(rt; opened.saturating_add(56), bytes.len());
+    Ok(())
+}
