@@ -2,8 +2,8 @@
 #![tactic(auto)]
 
 use grid_console::{Asked, NoWords, words};
-use grid_log::log_main;
 use grid_outside::{StandardInput, StandardOutput};
+use grid_report::report_main;
 use grid_sockets::MachineClock;
 use grid_types::Text;
 use std::alloc::Global;
@@ -13,6 +13,8 @@ use std::process::ExitCode;
 const USAGE: &str = "\
 usage: grid_log [--json] < JOURNAL            a line for each event of a hub's journal, or an object of JSON
        grid_log --follow [--json] < JOURNAL   the same, and of what is written behind it later
+       grid_log --metrics < JOURNAL           counts and gauges, in the text format of Prometheus
+       grid_log --page < JOURNAL              a page of HTML: nodes, slots, what waits, the last hour
 ";
 
 /// Runs what the arguments say, or tells what they ask of the program.
@@ -25,7 +27,7 @@ fn status_of(rt: HostRuntime, words: &[Text]) -> u8 {
     let mut input = StandardInput::new(&rt);
     let mut output = StandardOutput::new(&rt);
     let mut clock = MachineClock::new(rt);
-    log_main(alloc, words, &mut input, &mut output, &mut clock)
+    report_main(alloc, words, &mut input, &mut output, &mut clock)
 }
 
 fn main(rt: HostRuntime) -> ExitCode {

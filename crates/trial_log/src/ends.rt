@@ -65,11 +65,13 @@ fn a_read_or_a_write_that_fails_is_told(rt: HostRuntime) -> Result<(), Fail> {
 fn other_words_are_told_and_nothing_is_read(rt: HostRuntime) -> Result<(), Fail> {
     let alloc = rt.alloc();
     let whole = journal(alloc)?;
-    let rows: [&[&str]; 5] = [
+    let rows: [&[&str]; 7] = [
         &["--jso"],
         &["--json", "--json"],
         &["--json", "--follow"],
         &["--follow", "--follow"],
+        &["--metrics", "--page"],
+        &["--metric"],
         &["text"],
     ];
     for words in rows {

@@ -3,8 +3,9 @@ ghost use Rattle.std.specs.Prelude.{◌≡◌, None};
 
 use crate::changes::{beaten, suspected};
 use crate::logs::{head, put};
-use grid_log::{Form, log_lines, log_main};
+use grid_log::{Form, log_lines};
 use grid_outside::{Failed, MemClock, MemSink, MemSource, Source};
+use grid_report::report_main;
 use grid_types::{Bytes, Entry, Moment, NoMemory, Text};
 use std::alloc::Global;
 use std::test::Fail;
@@ -103,7 +104,7 @@ fn the_word_asks_for_it(rt: HostRuntime) -> Result<(), Fail> {
     let mut input = grown(alloc, 78, &[1])?;
     let mut output = MemSink::new(alloc, 19, Vec::new(alloc));
     let mut clock = MemClock::new(Moment(0));
-    let found = log_main(alloc, words.as_slice(), &mut input, &mut output, &mut clock);
+    let found = report_main(alloc, words.as_slice(), &mut input, &mut output, &mut clock);
     assert_eq!(rt; (found, clock.pauses()), (5, 1));
     assert_eq!(rt; output.taken(), BOTH);
     Ok(())

@@ -11,3 +11,5 @@ mod growing;
 mod lines;
 #[cfg(test)]
 mod logs;
+#[cfg(test)]
+mod reports;

@@ -1,7 +1,7 @@
 //! Journals in memory, and the log of one.
 use grid_journal::{write_entry, write_head};
-use grid_log::log_main;
 use grid_outside::{MemClock, MemSink, MemSource};
+use grid_report::report_main;
 use grid_types::{Bytes, Entry, HubConfig, Moment, Text};
 use std::alloc::Global;
 use std::test::Fail;
@@ -37,7 +37,7 @@ pub fn log(
     let mut input = MemSource::new(Bytes::of(alloc, journal)?, 23, reads.to_vec(alloc)?);
     let mut output = MemSink::new(alloc, 19, writes.to_vec(alloc)?);
     let mut clock = MemClock::new(Moment(0));
-    let status = log_main(alloc, texts.as_slice(), &mut input, &mut output, &mut clock);
+    let status = report_main(alloc, texts.as_slice(), &mut input, &mut output, &mut clock);
     let mut written = Vec::new(alloc);
     written.extend_from_slice(output.taken())?;
     Ok((status, written))

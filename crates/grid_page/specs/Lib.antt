@@ -1,0 +1,4 @@
+pub mod Escapes
+pub mod Nodes
+pub mod Hour
+pub mod Page
