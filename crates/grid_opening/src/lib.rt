@@ -16,7 +16,6 @@ mod fault;
 mod finishing;
 mod opening;
 mod settling;
-mod spelling;
 
 pub use ender::{Ender, NoEnder};
 pub use fault::OpeningFault;

@@ -3,10 +3,10 @@ ghost use Rattle.std.specs.Prelude.{◌≡◌, OnOk};
 ghost use Rattle.grid_opening.specs.Openings.{GoesOn, Is};
 
 use crate::fault::OpeningFault;
-use crate::spelling::spell;
 use grid_journal::{Piece, PieceFault};
 use grid_ledger::{GridLedger, Listener};
 use grid_types::Change;
+use hub_tellers::told_change;
 use journal_keeper::Keeper;
 use std::alloc::Global;
 
@@ -63,7 +63,7 @@ impl<K: Keeper + Drop, L: Listener + Drop> Opening<K, L> {
             return Ok(());
         }
         let mut piece = Piece::new(self.alloc);
-        match spell(&mut piece, caller, &change) {
+        match told_change(&mut piece, caller, &change) {
             Ok(()) => {}
             Err(PieceFault::Memory) => return Err(OpeningFault::Memory),
             Err(PieceFault::Unreadable) => return Err(OpeningFault::Late),
