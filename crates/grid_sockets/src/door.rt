@@ -16,6 +16,7 @@ use std::net::{
 };
 use std::os::fd::AsFd;
 use std::sync::Arc;
+use std::sync::atomic::AtomicU64;
 use std::time::Duration;
 use std::{io, time};
 
@@ -36,6 +37,8 @@ pub struct TcpDoor<R: Net<Listener = TcpListener, Stream = TcpStream> + Drop> {
     runtime: R,
     host: IpAddr,
     left: Option<u64>,
+    /// By how much its clocks are ahead of the machine's.
+    ahead: Option<Arc<AtomicU64>>,
     listener: Option<TcpListener>,
     /// What ends the waits of the gates that it has made.
     bells: Vec<Arc<Waker>>,
@@ -58,12 +61,32 @@ impl<R: Net<Listener = TcpListener, Stream = TcpStream> + AllocGlobal + Drop> Tc
             runtime,
             host: IpAddr::V4(Ipv4Addr::UNSPECIFIED),
             left: limit,
+            ahead: None,
             listener: None,
             bells,
             bound: None,
             faults: 0,
             ends: 0,
         }
+    }
+
+    /// The same door, whose clocks are ahead of the machine's by as much as this is at each look: a hub that goes on from a journal
+    /// of before the machine's start begins no earlier than that ended.
+    pub fn with_clocks_ahead(self, ahead: Arc<AtomicU64>) -> Self
+        ensures { result ≡ record self { ahead = Some ahead } }
+    {
+        TcpDoor {
+            ahead: Some(ahead),
+            ..self
+        }
+    }
+}
+
+/// One more that shares this, where there is one. None: there is none, or there was no memory.
+fn shared(ahead: &Option<Arc<AtomicU64>>) -> Option<Arc<AtomicU64>> {
+    match ahead {
+        Some(ahead) => ahead.clone().ok(),
+        None => None,
     }
 }
 
@@ -263,6 +286,6 @@ impl<
         ensures rest { self.new ≡ self.old }
         ensures fresh { result.last ≡ 0 }
     {
-        MachineClock::new(self.runtime)
+        MachineClock::ahead(self.runtime, shared(&self.ahead))
     }
 }

@@ -4,10 +4,11 @@ ghost use Rattle.std.specs.Io.KnownBytes.{Appends};
 ghost use Rattle.grid_outside.specs.Counts.{HasCause, Rose};
 ghost use Rattle.journal_keeper.specs.Keeps.{Adds, AddsFront, AppendsFront};
 
-use crate::keeper::{Keeper, Short};
+use crate::keeper::{Keeper, News, Short};
 use grid_outside::Failed;
 use std::fs::OpenFile;
 use std::io::Write;
+use std::sync::Wait;
 
 /// When appended bytes are made to outlast a loss of power.
 #[derive(Clone, Copy, Debug, PartialEq, Eq)]
@@ -125,4 +126,6 @@ impl<F: Write + OpenFile + Drop> Keeper for FileKeeper<F> {
     fn sync(&mut self) -> Result<(), Failed> {
         self.sync_file()
     }
+
+    fn tell<R: Wait>(&mut self, _rt: &R, _news: News<'_>) {}
 }

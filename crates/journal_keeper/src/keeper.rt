@@ -4,11 +4,21 @@ ghost use Rattle.grid_outside.specs.Counts.{HasCause};
 ghost use Rattle.journal_keeper.specs.Keeps.{Adds, AddsFront};
 
 use grid_outside::Failed;
+use std::sync::Wait;
 
 /// An append failed: so many bytes from the front of its piece stand there, perhaps none, perhaps all.
 #[derive(Clone, Copy, Debug, PartialEq, Eq)]
 pub struct Short {
     pub taken: usize,
+}
+
+/// What becomes of a piece.
+#[derive(Clone, Copy, Debug)]
+pub enum News<'a> {
+    /// It has the entries of a turn, and stands there.
+    Kept(&'a [u8]),
+    /// An append of it failed, and the turn waits.
+    Waits,
 }
 
 /// A file that grows at its end. A kill while an append runs leaves what stood there and a front of the piece.
@@ -40,6 +50,10 @@ pub trait Keeper {
         ensures all { OnOk result (IfSome (kept self.new) (λ bytes. length bytes ≤ synced self.new)) }
         ensures synced { synced self.old ≤ synced self.new }
         ensures cause { HasCause (faults self.old) (faults self.new) result };
+
+    /// Tells whoever watches what became of a piece, where somebody does, and waits for nobody.
+    fn tell<R: Wait>(&mut self, rt: &R, news: News<'_>)
+        ensures { kept self.new ≡ kept self.old };
 }
 
 /// Keeps nothing and never fails.
@@ -64,4 +78,6 @@ impl Keeper for NoJournal {
     fn sync(&mut self) -> Result<(), Failed> {
         Ok(())
     }
+
+    fn tell<R: Wait>(&mut self, _rt: &R, _news: News<'_>) {}
 }

@@ -3,10 +3,12 @@ ghost use Rattle.std.specs.Prelude.{◌≡◌, option_map};
 ghost use Rattle.journal_keeper.specs.Keepings.{kept_by};
 
 use crate::file::FileKeeper;
-use crate::keeper::{Keeper, Short};
+use crate::keeper::{Keeper, News, Short};
 use crate::memory::MemKeeper;
+use crate::watching::Watch;
 use grid_outside::Failed;
 use std::fs::File;
+use std::sync::Wait;
 
 /// Where a hub's journal is kept. One type serves each hub, so that no type above it names how a journal is kept.
 #[derive(Drop)]
@@ -17,6 +19,48 @@ pub enum Keeping {
     Memory(MemKeeper),
     /// In a file.
     File(FileKeeper<File>),
+    /// In a file, where there is one, and a thread is told what is kept.
+    Watched(Watched),
+}
+
+/// A journal's file, where there is one, and the end at which a thread is told what is kept.
+#[derive(Drop)]
+pub struct Watched {
+    pub file: Option<FileKeeper<File>>,
+    pub watch: Watch,
+}
+
+impl Keeper for Watched {
+    ghost use Rattle.std.specs.Prelude.{None};
+    ghost use Rattle.journal_keeper.specs.Keepings.{faults_in};
+
+    ghost faults = { λ w. faults_in w.file };
+
+    ghost kept = { λ w. None };
+
+    ghost synced = { λ w. 0 };
+
+    fn is_kept(&self) -> bool {
+        self.file.is_some()
+    }
+
+    fn append(&mut self, piece: &[u8]) -> Result<(), Short> {
+        match &mut self.file {
+            Some(keeper) => keeper.append(piece),
+            None => Ok(()),
+        }
+    }
+
+    fn sync(&mut self) -> Result<(), Failed> {
+        match &mut self.file {
+            Some(keeper) => keeper.sync(),
+            None => Ok(()),
+        }
+    }
+
+    fn tell<R: Wait>(&mut self, rt: &R, news: News<'_>) {
+        self.watch.tell(rt, news);
+    }
 }
 
 impl Keeping {
@@ -45,6 +89,7 @@ impl Keeper for Keeping {
             Keeping::Nothing => false,
             Keeping::Memory(_) => true,
             Keeping::File(_) => true,
+            Keeping::Watched(keeper) => keeper.is_kept(),
         }
     }
 
@@ -53,6 +98,7 @@ impl Keeper for Keeping {
             Keeping::Nothing => Ok(()),
             Keeping::Memory(keeper) => keeper.append(piece),
             Keeping::File(keeper) => keeper.append(piece),
+            Keeping::Watched(keeper) => keeper.append(piece),
         }
     }
 
@@ -61,6 +107,13 @@ impl Keeper for Keeping {
             Keeping::Nothing => Ok(()),
             Keeping::Memory(keeper) => keeper.sync(),
             Keeping::File(keeper) => keeper.sync(),
+            Keeping::Watched(keeper) => keeper.sync(),
+        }
+    }
+
+    fn tell<R: Wait>(&mut self, rt: &R, news: News<'_>) {
+        if let Keeping::Watched(keeper) = self {
+            keeper.tell(rt, news);
         }
     }
 }

@@ -9,6 +9,8 @@
 //!   left is a front of entries, not of turns.
 //! - An append that fails tells how much it took, so that a running hub may wait, as for room on a full disk, and go on
 //!   just there: it holds up what it answers, and neither forgets nor ends.
+//! - Who watches is told copies of what is kept, behind the appends and within the turns, so in the order of the journal. No turn
+//!   waits for who is slow: what finds no room is counted, and the count is told once there is room.
 //! - A keeper over a real file tells no bytes. Then the clauses say that each piece was handed on and each failure told; that
 //!   the file has what a write took is the system's promise.
 #![tactic(auto)]
@@ -18,13 +20,15 @@ mod keeper;
 mod keeping;
 mod laws;
 mod memory;
+mod watching;
 mod whole;
 
 pub use file::{FileKeeper, Syncing};
-pub use keeper::{Keeper, NoJournal, Short};
-pub use keeping::Keeping;
+pub use keeper::{Keeper, News, NoJournal, Short};
+pub use keeping::{Keeping, Watched};
 pub use laws::{
     cut_pieces_are_images, fronts_are_images, kills_leave_images, pieces_go_on, written_is_journal,
 };
 pub use memory::MemKeeper;
+pub use watching::{Sight, Watch};
 pub use whole::{keep_all, keep_told};

@@ -2,9 +2,10 @@
 ghost use Rattle.std.specs.Prelude.{◌≡◌, ℕ, ◌≤◌, List, [], length, Some};
 ghost use Rattle.grid_outside.specs.Counts.{Rose};
 
-use crate::keeper::{Keeper, Short};
+use crate::keeper::{Keeper, News, Short};
 use grid_outside::Failed;
 use std::alloc::Global;
+use std::sync::Wait;
 
 /// A file in memory. Its calls are numbered from 0, appends and syncs alike; each whose number is planned fails, and so does an
 /// append where memory is short. A planned append takes of its piece at most `part` bytes.
@@ -112,4 +113,6 @@ impl Keeper for MemKeeper {
         self.synced = self.synced.max(self.bytes.len());
         Ok(())
     }
+
+    fn tell<R: Wait>(&mut self, _rt: &R, _news: News<'_>) {}
 }

@@ -5,7 +5,7 @@ ghost use Rattle.grid_types.specs.declared.entry.Entry.{Entry};
 ghost use Rattle.grid_journal.specs.Spelled.{entry_bytes};
 ghost use Rattle.journal_keeper.specs.Keeps.{Adds, Holds};
 
-use crate::keeper::Keeper;
+use crate::keeper::{Keeper, News};
 use grid_journal::PieceFault;
 use std::sync::Wait;
 use std::sync::atomic::AtomicU64;
@@ -31,6 +31,7 @@ pub fn keep_all<K: Keeper, R: Wait>(rt: &R, keeper: &mut K, piece: &[u8])
             Ok(()) => return,
             Err(short) => {
                 at += short.taken;
+                keeper.tell(rt, News::Waits);
                 pause(rt);
             }
         }
@@ -52,7 +53,10 @@ pub fn keep_told<K: Keeper, R: Wait>(
     ensures tells { is_some (K.kept keeper.new) ≡ is_some (K.kept keeper.old) }
 {
     match told {
-        Ok(()) => keep_all(rt, keeper, piece),
+        Ok(()) => {
+            keep_all(rt, keeper, piece);
+            keeper.tell(rt, News::Kept(piece));
+        }
         Err(_) => {
             if keeper.is_kept() {
                 for _ in rt.forever() {
