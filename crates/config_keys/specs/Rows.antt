@@ -35,6 +35,8 @@ hub_rows =
     ∷ row (codes "node") (codes "session-timeout") (kind.Number 10 86_400)
     ∷ row (codes "server") (codes "host") (kind.Text form.Name)
     ∷ row (codes "server") (codes "connections") (kind.Number 1 20_000)
+    ∷ row (codes "distributor") (codes "journal") (kind.Text form.Path)
+    ∷ row (codes "distributor") (codes "journal-sync") (kind.Text form.Sync)
     ∷ []
 
 -- the keys of a node in memory

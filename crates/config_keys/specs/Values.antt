@@ -1,8 +1,9 @@
 -- What may stand for a key, and how it is written as a word.
-use Rattle.std.specs.Prelude.{◌&&◌, ◌==◌, ℕ, ℤ, pos, negsuc, Bool, true, false, not, nat_le}
+use Rattle.std.specs.Prelude.{◌&&◌, ◌||◌, ◌==◌, ℕ, ℤ, pos, negsuc, Bool, true, false, not, nat_le}
 use Rattle.std.specs.Prelude.{List, [], ◌∷◌, length, is_some, Option, None, Some, codes, decimal, option_and_then, option_map}
 use Rattle.std.specs.Prelude.{if◌then◌else◌}
 use Rattle.std.specs.List.{list_all}
+use Rattle.std.specs.Str.{bytes_eq}
 use Rattle.toml.specs.Data.{Data, as_bool, as_integer, as_str}
 use Rattle.grid_types.specs.Names.{is_node_name_byte}
 use Rattle.server_words.specs.Addresses.{bare_address, is_reachable}
@@ -38,12 +39,28 @@ is_address text = is_reachable (bare_address text) && not (begins_with_dash text
 abbrev pub is_capability : List ℕ → Bool
 is_capability text = is_some (own_cap text) && not (begins_with_dash text)
 
+-- neither a control character of ASCII nor a break of a line
+abbrev pub is_printing : ℕ → Bool
+is_printing b = nat_le 32 b && not (b == 127)
+
+-- 1 to 4,095 such bytes that begin with no `-`
+abbrev pub is_path : List ℕ → Bool
+is_path text =
+    nat_le 1 (length text) && nat_le (length text) 4_095 && list_all is_printing text
+    && not (begins_with_dash text)
+
+-- `each` or `second`
+abbrev pub is_sync : List ℕ → Bool
+is_sync text = bytes_eq text (codes "each") || bytes_eq text (codes "second")
+
 -- the text is of the form
 abbrev pub has_form : Form → List ℕ → Bool
 has_form form.Name text = is_name text
 has_form form.Label text = is_label text
 has_form form.Address text = is_address text
 has_form form.Capability text = is_capability text
+has_form form.Path text = is_path text
+has_form form.Sync text = is_sync text
 
 abbrev pub text_of : Form → List ℕ → Option (List ℕ)
 text_of f text = if has_form f text then Some text else None

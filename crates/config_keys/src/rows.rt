@@ -24,6 +24,10 @@ pub enum Form {
     Address,
     /// A capability `NAME=VALUE`, which begins with no `-`.
     Capability,
+    /// The path of a file: 1 to 4,095 bytes, none of which is a control character of ASCII, that begin with no `-`.
+    Path,
+    /// `each` or `second`.
+    Sync,
 }
 
 /// What may stand for a key.
@@ -44,6 +48,8 @@ impl fmt::Display for Form {
             Form::Label => "a text of 1 to 64 letters, digits, -, _ and ., no - in front",
             Form::Address => "an address HOST:PORT as a text",
             Form::Capability => "a text NAME=VALUE, no - in front",
+            Form::Path => "the path of a file, no - in front",
+            Form::Sync => "\"each\" or \"second\"",
         })
     }
 }
@@ -99,6 +105,8 @@ const HUB_ROWS: &[Row] = &[
     row!("node", "session-timeout", 10..=86_400),
     row!("server", "host", Kind::Text(Form::Name)),
     row!("server", "connections", 1..=20_000),
+    row!("distributor", "journal", Kind::Text(Form::Path)),
+    row!("distributor", "journal-sync", Kind::Text(Form::Sync)),
 ];
 
 const NODE_ROWS: &[Row] = &[

@@ -2,7 +2,7 @@
 ghost use Rattle.std.specs.Prelude.{◌≡◌, IfOk, option_map, decimal, Some};
 ghost use Rattle.std.specs.List.{list_all};
 ghost use Rattle.toml.specs.View.{view};
-ghost use Rattle.config_keys.specs.Values.{begins_with_dash, has_form, is_address, is_capability, is_label, is_name, is_plain, number_within, text_of, truth, word_for};
+ghost use Rattle.config_keys.specs.Values.{begins_with_dash, has_form, is_address, is_capability, is_label, is_name, is_path, is_plain, is_printing, is_sync, number_within, text_of, truth, word_for};
 
 use crate::rows::{Form, Kind};
 use grid_types::{NoMemory, Text, are_node_name_bytes};
@@ -12,6 +12,12 @@ use toml::Value;
 
 /// The most bytes of a name.
 const MOST_NAME_BYTES: usize = 64;
+
+/// The most bytes of a path, one fewer than Linux takes with the byte behind it.
+const MOST_PATH_BYTES: usize = 4_095;
+
+/// The last control character of ASCII.
+const DELETE: u8 = 127;
 
 fn are_plain(text: &[u8]) -> bool
     ensures { result ≡ list_all is_plain text.now }
@@ -52,6 +58,27 @@ fn is_capability(text: &str) -> bool
     names_capability(text) && !begins_with_dash(text.as_bytes())
 }
 
+fn are_printing(text: &[u8]) -> bool
+    ensures { result ≡ list_all is_printing text.now }
+{
+    text.iter().all(|b| *b >= b' ' && !(*b == DELETE))
+}
+
+fn is_path(text: &[u8]) -> bool
+    ensures { result ≡ is_path text.now }
+{
+    text.len() >= 1
+        && text.len() <= MOST_PATH_BYTES
+        && are_printing(text)
+        && !begins_with_dash(text)
+}
+
+fn is_sync(text: &str) -> bool
+    ensures { result ≡ is_sync text.now }
+{
+    text == "each" || text == "second"
+}
+
 fn has_form(form: Form, text: &str) -> bool
     ensures { result ≡ has_form form text.now }
 {
@@ -60,6 +87,8 @@ fn has_form(form: Form, text: &str) -> bool
         Form::Label => is_label(text.as_bytes()),
         Form::Address => is_address(text),
         Form::Capability => is_capability(text),
+        Form::Path => is_path(text.as_bytes()),
+        Form::Sync => is_sync(text),
     }
 }
 

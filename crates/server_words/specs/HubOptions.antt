@@ -10,6 +10,7 @@ use Rattle.server_words.specs.declared.hub.HubWords.{HubWords}
 abbrev pub hub_command : App
 hub_command =
     with_rule (with_rule (with_rule (with_rule (with_rule (with_rule (with_rule (with_rule (with_rule
+    (with_rule (with_rule
     (bare (codes "grid_hub"))
     (text_of (codes "host")))
     (number_of (codes "port") 1 65_535))
@@ -19,7 +20,9 @@ hub_command =
     (number_of (codes "queue-limit") 1 MOST_REQUESTS))
     (number_of (codes "handlers") 1 128))
     (number_of (codes "workers") 0 64))
-    (number_of (codes "connections") 1 20_000)
+    (number_of (codes "connections") 1 20_000))
+    (text_of (codes "journal")))
+    (text_of (codes "journal-sync"))
 
 -- the configuration that the words found tell; what they leave out is as by default
 abbrev pub config_told : List Row → HubConfig

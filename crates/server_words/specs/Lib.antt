@@ -2,6 +2,7 @@ pub mod Addresses
 pub mod AttachOptions
 pub mod Hosts
 pub mod HubOptions
+pub mod Journals
 pub mod NodeOptions
 pub mod Options
 pub mod OwnCapabilities

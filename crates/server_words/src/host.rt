@@ -58,7 +58,10 @@ pub fn hub_host(alloc: Global, words: &[Text]) -> Result<IpAddr, WordsFault>
 {
     let command = command(alloc)?;
     let texts = texts(alloc, words)?;
-    let matches = found(command, texts.as_slice())?;
+    let matches = match found(command, texts.as_slice()) {
+        Ok(matches) => matches,
+        Err(fault) => return Err(fault),
+    };
     match host_in(text(&matches, "host", "0.0.0.0").as_bytes()) {
         Some(ip) => Ok(ip),
         None => Err(WordsFault::Refused),

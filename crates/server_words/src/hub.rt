@@ -7,6 +7,7 @@ ghost use Rattle.server_words.specs.Options.{IsTaken, NumbersFit};
 ghost use Rattle.server_words.specs.declared.options.WordsFault.TheVariants as fault;
 
 use crate::host::hub_host;
+use crate::journal::hub_journal;
 use crate::options::{
     WordsFault, found, matched, number, number_option, reason_of, text_option, texts, truth,
     truth_option,
@@ -27,6 +28,8 @@ usage: grid_hub [OPTION VALUE]...
   --handlers COUNT                        threads for connections, 1 to 128 (64)
   --workers COUNT                         starts of sessions at once, 0 to 64 (4)
   --connections COUNT                     connections at once, 1 to 20000 (10000)
+  --journal FILE                          keep a journal, and go on from it (none)
+  --journal-sync each|second              onto the disk: each turn, or each second (second)
 ";
 
 /// What the words of the hub's program say.
@@ -57,7 +60,9 @@ pub(crate) fn command<'a>(alloc: Global) -> Result<Command<'a>, AllocError>
     let six = five.arg(number_option(alloc, "handlers", 1, 128))?;
     let seven = six.arg(number_option(alloc, "workers", 0, 64))?;
     let eight = seven.arg(number_option(alloc, "connections", 1, 20_000))?;
-    Ok(eight)
+    let nine = eight.arg(text_option(alloc, "journal"))?;
+    let ten = nine.arg(text_option(alloc, "journal-sync"))?;
+    Ok(ten)
 }
 
 fn config(matches: &ArgMatches<'_>) -> HubConfig
@@ -100,7 +105,10 @@ pub fn hub_words(alloc: Global, words: &[Text]) -> Result<HubWords, WordsFault>
 {
     let command = command(alloc)?;
     let texts = texts(alloc, words)?;
-    let matches = found(command, texts.as_slice())?;
+    let matches = match found(command, texts.as_slice()) {
+        Ok(matches) => matches,
+        Err(fault) => return Err(fault),
+    };
     Ok(told(&matches))
 }
 
@@ -111,17 +119,22 @@ fn refusal(alloc: Global, words: &[Text]) -> Result<Option<Error>, AllocError> {
     Ok(matched(command, texts.as_slice()).err())
 }
 
+/// Which value the command takes and the program doesn't.
+fn value_reason(alloc: Global, words: &[Text]) -> Option<&'static str> {
+    if let Err(WordsFault::Refused) = hub_host(alloc, words) {
+        return Some("the value of --host is no IP address");
+    }
+    if let Err(WordsFault::Refused) = hub_journal(alloc, words) {
+        return Some("the value of --journal-sync is neither each nor second");
+    }
+    None
+}
+
 /// What is wrong with words that the hub's program refuses, in one line for whoever called it. None where
 /// they are taken, and where there is no memory to say it.
 pub fn hub_reason(alloc: Global, words: &[Text]) -> Option<String> {
     match refusal(alloc, words).ok()? {
         Some(error) => reason_of(alloc, &error),
-        // What the command takes and the program doesn't is the address.
-        None => match hub_host(alloc, words) {
-            Err(WordsFault::Refused) => {
-                String::from_str(alloc, "the value of --host is no IP address").ok()
-            }
-            _ => None,
-        },
+        None => String::from_str(alloc, value_reason(alloc, words)?).ok(),
     }
 }

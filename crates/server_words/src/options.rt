@@ -155,7 +155,7 @@ pub fn found<'a>(command: Command<'a>, words: &'a [&'a str]) -> Result<ArgMatche
 }
 
 /// The text that the words set an option to, where they set it.
-fn set<'a>(matches: &ArgMatches<'a>, name: &str) -> Option<&'a str>
+pub(crate) fn set<'a>(matches: &ArgMatches<'a>, name: &str) -> Option<&'a str>
     ensures { option_map (λ s. s.now) result ≡ first_of name.now (rows_of (found_of matches.now)) }
 {
     matches.get_str(name)

@@ -53,6 +53,13 @@ const TEXTS: &[(&str, &str)] = &[
         "[node]\nhub = 'http://h:80/'\ncapability = 'a:b={\"c\": 1}'\nonce = true\n",
     ),
     ("attach", "[node]\ncapability = \"=7\"\n"),
+    (
+        "hub",
+        "[distributor]\njournal = 'a b'\njournal-sync = 'each'\n",
+    ),
+    ("hub", "[distributor]\njournal = '-a'\n"),
+    ("hub", "[distributor]\njournal = \"a\\nb\"\n"),
+    ("hub", "[distributor]\njournal-sync = 'never'\n"),
 ];
 
 /// What the text says to the program, and the keys that it has.

@@ -12,4 +12,6 @@ returns c =
     let five = with_option _ _ c.in_ok-four.four c.in_ok-five.five c.number_option-4.result four c.in_ok-five.ensures c.number_option-4.ensures.local c.number_option-4.ensures.rule in
     let six = with_option _ _ c.in_ok-five.five c.in_ok-six.six c.number_option-5.result five c.in_ok-six.ensures c.number_option-5.ensures.local c.number_option-5.ensures.rule in
     let seven = with_option _ _ c.in_ok-six.six c.in_ok-seven.seven c.number_option-6.result six c.in_ok-seven.ensures c.number_option-6.ensures.local c.number_option-6.ensures.rule in
-    with_option _ _ c.in_ok-seven.seven c.in_ok-eight.eight c.number_option-7.result seven c.in_ok-eight.ensures c.number_option-7.ensures.local c.number_option-7.ensures.rule
+    let eight = with_option _ _ c.in_ok-seven.seven c.in_ok-eight.eight c.number_option-7.result seven c.in_ok-eight.ensures c.number_option-7.ensures.local c.number_option-7.ensures.rule in
+    let nine = with_option _ _ c.in_ok-eight.eight c.in_ok-nine.nine c.text_option-2.result eight c.in_ok-nine.ensures c.text_option-2.ensures.local c.text_option-2.ensures.rule in
+    with_option _ _ c.in_ok-nine.nine c.in_ok-ten.ten c.text_option-3.result nine c.in_ok-ten.ensures c.text_option-3.ensures.local c.text_option-3.ensures.rule
