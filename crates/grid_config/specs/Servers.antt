@@ -4,8 +4,11 @@ use Rattle.config_keys.specs.declared.rows.Mode.{Mode}
 use Rattle.config_keys.specs.declared.rows.Mode.TheVariants as mode
 use Rattle.grid_outside.specs.Counts.{Rose}
 use Rattle.grid_outside.specs.Told.{DoorView}
+use Rattle.hub_server.specs.Statuses.{MayEnd}
+use Rattle.hub_server.specs.declared.begins.Unbegun.{Unbegun}
 use Rattle.server_words.specs.Hosts.{IsHostText, TellsHost, host_said}
 use Rattle.server_words.specs.HubOptions.{hub_said}
+use Rattle.server_words.specs.Journals.{TellsJournal}
 use Rattle.server_words.specs.NodeOptions.{FitsNode, node_said}
 
 -- the one word that names the program
@@ -19,7 +22,7 @@ NameOne words = (m : Mode) × IsNamed words m
 
 -- the program takes these words
 abbrev pub Takes : Mode → List (List ℕ) → Type 0
-Takes mode.Hub words = TellsHost words
+Takes mode.Hub words = TellsHost words × TellsJournal words
 Takes mode.Node words = FitsNode words
 
 -- the port that the words name, or the program's own where they name none
@@ -39,8 +42,8 @@ MaySetHost mode.Hub words status old new =
 MaySetHost mode.Node words status old new = Unit {0}
 
 -- how the program may end for these words, by its own contract: its status, and what its door told
--- before and after
-pub record MayServe (m : Mode) (words : List (List ℕ)) (status : ℕ) (old new : DoorView)
+-- before and after; where a hub has not begun, that is for one of these reasons
+pub record MayServe (may : Unbegun → Type 0) (m : Mode) (words : List (List ℕ)) (status : ℕ) (old new : DoorView)
     : Type 0 where
   pub closed : status ≡ 0 → Rose old.ends new.ends
   pub listens : status ≡ 0 → new.bound ≡ Some (port_said m words)
@@ -51,4 +54,4 @@ pub record MayServe (m : Mode) (words : List (List ℕ)) (status : ℕ) (old new
   pub faults_later : old.faults ≤ new.faults
   pub bound : (new.bound ≡ old.bound) ⊎ (new.bound ≡ Some (port_said m words))
   pub host : MaySetHost m words status old new
-  pub statuses : (status ≡ 0) ⊎ ((status ≡ 2) ⊎ ((status ≡ 3) ⊎ (status ≡ 5)))
+  pub statuses : (status ≡ 2) ⊎ MayEnd may status

@@ -19,4 +19,4 @@ pub use config_text::{
 };
 pub use driver::attach_config_main;
 pub use kept::KeptInput;
-pub use top::config_main;
+pub use top::{config_main, config_main_by};

@@ -4,8 +4,7 @@ use Rattle.grid_outside.specs.Counts.{Rose}
 use Rattle.grid_outside.specs.Told.{DoorView, NoneFell}
 use Rattle.grid_outside.specs.StreamLaws.{rose_later}
 use Rattle.hub_server.specs.declared.begins.Unbegun.{Unbegun}
-use Rattle.hub_server.specs.declared.begins.Unbegun.TheVariants as unbegun
-use Rattle.hub_server.specs.Statuses.{HasRun, HasRunOr, MayEnd, status_of}
+use Rattle.hub_server.specs.Statuses.{HasRun, HasRunOr, MayEnd, MayNotBeNew, status_of}
 
 pub run_later : (old mid new : DoorView) (status : ℕ) → NoneFell old mid → HasRun mid new status → HasRun old new status
 run_later old mid new status n r = record {
@@ -50,10 +49,12 @@ not_begun may old new why status n m e zero three = record {
   statuses = inr (inr (inr (why, m, e)));
 }
 
--- where it begins anew, want of memory is the one reason
-pub begun_anew : (status : ℕ) → (status ≡ 2) ⊎ MayEnd (λ why. why ≡ unbegun.Memory) status → (status ≡ 0) ⊎ ((status ≡ 2) ⊎ ((status ≡ 3) ⊎ (status ≡ 5)))
+-- where it begins anew, want of memory and a journal that is asked for are the reasons
+pub begun_anew : (status : ℕ) → (status ≡ 2) ⊎ MayEnd MayNotBeNew status
+    → (status ≡ 0) ⊎ ((status ≡ 2) ⊎ ((status ≡ 3) ⊎ ((status ≡ 5) ⊎ (status ≡ 6))))
 begun_anew status (inl e) = inr (inl e)
 begun_anew status (inr (inl e)) = inl e
 begun_anew status (inr (inr (inl e))) = inr (inr (inl e))
-begun_anew status (inr (inr (inr (inl e)))) = inr (inr (inr e))
-begun_anew status (inr (inr (inr (inr x)))) = inr (inr (inr (x.2 ∙ ap status_of x.1)))
+begun_anew status (inr (inr (inr (inl e)))) = inr (inr (inr (inl e)))
+begun_anew status (inr (inr (inr (inr (why, inl e, is))))) = inr (inr (inr (inl (is ∙ ap status_of e))))
+begun_anew status (inr (inr (inr (inr (why, inr e, is))))) = inr (inr (inr (inr (is ∙ ap status_of e))))

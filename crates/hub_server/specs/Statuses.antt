@@ -1,6 +1,7 @@
 -- The statuses of the hub's program.
 use Rattle.std.specs.Prelude.{◌≡◌, ℕ, ◌≤◌, ◌⊎◌, Some}
 use Rattle.std.specs.declared.net.ip_addr.IpAddr.{IpAddr}
+use Rattle.grid_types.specs.declared.config.HubConfig.{HubConfig}
 use Rattle.grid_outside.specs.Counts.{Rose}
 use Rattle.grid_outside.specs.Told.{DoorView, NoneFell}
 use Rattle.hub_server.specs.declared.begins.Unbegun.{Unbegun}
@@ -18,7 +19,20 @@ abbrev pub status_of : Unbegun → ℕ
 status_of unbegun.Memory = 5
 status_of unbegun.Failed = 6
 status_of unbegun.Held = 7
-status_of unbegun.NoJournal = 8
+status_of unbegun.NoJournal = 11
+
+-- why a hub that keeps no journal may not begin: there was no memory, or it was to keep one
+abbrev pub MayNotBeNew : Unbegun → Type 0
+MayNotBeNew why = (why ≡ unbegun.Memory) ⊎ (why ≡ unbegun.Failed)
+
+-- the hub is set up with what is told, but for the first numbers that it gives
+pub record IsSetUpAs (told config : HubConfig) : Type 0 where
+  pub timeout : config.timeout_ms ≡ told.timeout_ms
+  pub idle : config.idle_ms ≡ told.idle_ms
+  pub lapse : config.lapse_ms ≡ told.lapse_ms
+  pub down : config.down_ms ≡ told.down_ms
+  pub queue : config.queue_requests ≡ told.queue_requests
+  pub rejects : config.reject_unsupported ≡ told.reject_unsupported
 
 -- the status of a program that was not refused: its links ended, or its hub had not begun for one of these reasons
 abbrev pub MayEnd : (Unbegun → Type 0) → ℕ → Type 0

@@ -5,6 +5,7 @@ ghost use Rattle.grid_outside.specs.Counts.{Rose};
 ghost use Rattle.hub_cell.specs.Passes.{IsOf, spares_of};
 ghost use Rattle.server_words.specs.HubOptions.{AreWithin, hub_said};
 ghost use Rattle.server_words.specs.Hosts.{IsHostText, TellsHost, host_said};
+ghost use Rattle.server_words.specs.Journals.{TellsJournal};
 ghost use Rattle.server_words.specs.declared.options.WordsFault.TheVariants as faults;
 ghost use Rattle.grid_outside.specs.Told.{NoneFell};
 ghost use Rattle.hub_server.specs.Statuses.{HasRun, HasRunOr, HasServed, MayEnd};
@@ -18,7 +19,7 @@ use grid_outside::Door;
 use grid_types::Text;
 use hub_cell::{Pass, SharedHub};
 use hub_workers::start_limit;
-use server_words::{HubWords, WordsFault, hub_host, hub_words};
+use server_words::{HubWords, JournalWords, WordsFault, hub_host, hub_journal, hub_words};
 use std::alloc::Global;
 use std::net::IpAddr;
 use std::sync::Wait;
@@ -162,6 +163,7 @@ fn serve_with_house<R: Threads + Wait + Sync, D: Door, B: Begins>(
     alloc: Global,
     words: &HubWords,
     house: House<D::G, D::C>,
+    journal: &JournalWords,
     door: &mut D,
     beginning: &mut B,
 ) -> u8
@@ -175,7 +177,7 @@ fn serve_with_house<R: Threads + Wait + Sync, D: Door, B: Begins>(
         Ok(posts) => posts,
         Err(status) => return status,
     };
-    let (hub, first) = match beginning.begin(rt, alloc, words.config, loops + 1) {
+    let (hub, first) = match beginning.begin(rt, alloc, words.config, journal, loops + 1) {
         Ok(begun) => begun,
         Err(why) => return why.status(),
     };
@@ -189,6 +191,7 @@ fn serve_hub<R: Threads + Wait + Sync, D: Door, B: Begins>(
     rt: &R,
     alloc: Global,
     words: &HubWords,
+    journal: &JournalWords,
     door: &mut D,
     beginning: &mut B,
 ) -> u8
@@ -198,7 +201,7 @@ fn serve_hub<R: Threads + Wait + Sync, D: Door, B: Begins>(
     // A worker doesn't know how long a request has waited.
     let start_ms = start_limit(words.config.timeout_ms);
     match house_of(alloc, door, words.workers as usize, start_ms) {
-        Ok(house) => serve_with_house(rt, alloc, words, house, door, beginning),
+        Ok(house) => serve_with_house(rt, alloc, words, house, journal, door, beginning),
         Err(status) => status,
     }
 }
@@ -209,6 +212,7 @@ fn serve_bound<R: Threads + Wait + Sync, D: Door, B: Begins>(
     alloc: Global,
     words: &HubWords,
     host: IpAddr,
+    journal: &JournalWords,
     door: &mut D,
     beginning: &mut B,
 ) -> u8
@@ -217,7 +221,7 @@ fn serve_bound<R: Threads + Wait + Sync, D: Door, B: Begins>(
 {
     door.listen_at(host);
     match door.bind(words.port) {
-        Ok(()) => serve_hub(rt, alloc, words, door, beginning),
+        Ok(()) => serve_hub(rt, alloc, words, journal, door, beginning),
         Err(_) => DOOR_FAILED,
     }
 }
@@ -239,7 +243,7 @@ fn refusal_status(fault: WordsFault) -> u8
 /// waits. It ends once the door is closed, or fails, and all links have ended. It need not return.
 ///
 /// 0: the door was closed. 2: the words don't fit. 3: the door could not be bound, or failed. 5: out
-/// of memory.
+/// of memory. 6: they ask for a journal, which this hub does not keep.
 pub fn hub_main<R: Threads + Wait + Sync, D: Door>(
     rt: &R,
     alloc: Global,
@@ -247,8 +251,8 @@ pub fn hub_main<R: Threads + Wait + Sync, D: Door>(
     door: &mut D,
 ) -> u8
     ensures closed { result ≡ 0 → Rose (D.view door.old).ends (D.view door.new).ends }
-    ensures misfit { result ≡ 2 → ¬ (TellsHost words.now) }
-    ensures refuses { ¬ (TellsHost words.now) → (result ≡ 2) ⊎ (result ≡ 5) }
+    ensures misfit { result ≡ 2 → ¬ (TellsHost words.now × TellsJournal words.now) }
+    ensures refuses { ¬ (TellsHost words.now × TellsJournal words.now) → (result ≡ 2) ⊎ (result ≡ 5) }
     ensures failed { result ≡ 3 → Rose (D.view door.old).faults (D.view door.new).faults }
     ensures later { ((D.view door.old).ends ≤ (D.view door.new).ends)
         × ((D.view door.old).faults ≤ (D.view door.new).faults) }
@@ -259,14 +263,14 @@ pub fn hub_main<R: Threads + Wait + Sync, D: Door>(
     ensures host { ((result ≡ 2) ⊎ (result ≡ 5)) × ((D.view door.new).host ≡ (D.view door.old).host)
         ⊎ IfSome (D.view door.new).host (IsHostText (host_said words.now))
         × IsSome (D.view door.new).host }
-    ensures statuses { (result ≡ 0) ⊎ ((result ≡ 2) ⊎ ((result ≡ 3) ⊎ (result ≡ 5))) }
+    ensures statuses { (result ≡ 0) ⊎ ((result ≡ 2) ⊎ ((result ≡ 3) ⊎ ((result ≡ 5) ⊎ (result ≡ 6)))) }
 {
     hub_main_by(rt, alloc, words, door, &mut NewHub)
 }
 
 /// The same over a hub that `beginning` makes once the door is bound, for which clients wait meanwhile.
 ///
-/// 6: what keeps its journal failed. 7: another hub keeps the same journal. 8: what is kept is no journal from which a hub can
+/// 6: what keeps its journal failed. 7: another hub keeps the same journal. 11: what is kept is no journal from which a hub can
 /// go on. Where there is no hub nothing is served.
 pub fn hub_main_by<R: Threads + Wait + Sync, D: Door, B: Begins>(
     rt: &R,
@@ -276,8 +280,8 @@ pub fn hub_main_by<R: Threads + Wait + Sync, D: Door, B: Begins>(
     beginning: &mut B,
 ) -> u8
     ensures closed { result ≡ 0 → Rose (D.view door.old).ends (D.view door.new).ends }
-    ensures misfit { result ≡ 2 → ¬ (TellsHost words.now) }
-    ensures refuses { ¬ (TellsHost words.now) → (result ≡ 2) ⊎ (result ≡ 5) }
+    ensures misfit { result ≡ 2 → ¬ (TellsHost words.now × TellsJournal words.now) }
+    ensures refuses { ¬ (TellsHost words.now × TellsJournal words.now) → (result ≡ 2) ⊎ (result ≡ 5) }
     ensures failed { result ≡ 3 → Rose (D.view door.old).faults (D.view door.new).faults }
     ensures later { ((D.view door.old).ends ≤ (D.view door.new).ends)
         × ((D.view door.old).faults ≤ (D.view door.new).faults) }
@@ -294,8 +298,12 @@ pub fn hub_main_by<R: Threads + Wait + Sync, D: Door, B: Begins>(
         Ok(told) => told,
         Err(fault) => return refusal_status(fault),
     };
+    let journal = match hub_journal(alloc, words) {
+        Ok(journal) => journal,
+        Err(fault) => return refusal_status(fault),
+    };
     match hub_host(alloc, words) {
-        Ok(host) => serve_bound(rt, alloc, &told, host, door, beginning),
+        Ok(host) => serve_bound(rt, alloc, &told, host, &journal, door, beginning),
         Err(fault) => refusal_status(fault),
     }
 }
