@@ -3,16 +3,19 @@
 
 use config_keys::{Row, attach_rows, reason_of, rows_of};
 use grid_config::{
-    ConfigFault, KeptInput, Mode, WordList, attach_config_main, attach_config_words, config_main,
-    config_words,
+    ConfigFault, KeptInput, Mode, WordList, attach_config_main, attach_config_words,
+    config_main_by, config_words,
 };
 use grid_console::{Asked, NoWords, ToldBind, ToldHub, ToldNodes, words};
 use grid_outside::StandardInput;
 use grid_sockets::{MachineClock, TcpDoor, TcpNodes};
 use grid_types::Text;
+use hub_journal::{FileHub, HubSide, run_told};
 use server_words::{hub_reason, node_reason};
 use std::alloc::Global;
 use std::process::ExitCode;
+use std::sync::Wait;
+use std::thread::Threads;
 
 /// What lines on standard error begin with.
 const NAME: &str = "grid_config";
@@ -46,11 +49,6 @@ fn word(words: &[Text]) -> &str {
         [word] => word.as_str(),
         _ => "",
     }
-}
-
-/// A door over TCP that says where it listens.
-fn door(rt: HostRuntime) -> ToldBind<HostRuntime, TcpDoor<HostRuntime>> {
-    ToldBind::new(rt, NAME, TcpDoor::new(rt, None))
 }
 
 fn run_attach(rt: HostRuntime, input: &mut Input) -> u8 {
@@ -99,32 +97,75 @@ fn tell(rt: HostRuntime, status: u8) {
     }
 }
 
-fn main(rt: HostRuntime) -> ExitCode {
-    let alloc: Global = rt.alloc();
-    let status = match words(&rt) {
-        Ok(words) => {
-            let words = words.as_slice();
-            if let Some(asked) = Asked::of(words) {
-                asked.tell(&rt, NAME, USAGE);
-                return ExitCode::SUCCESS;
-            }
-            let mut input = KeptInput::new(alloc, StandardInput::new(rt));
-            let status = match word(words) {
-                "attach" => run_attach(rt, &mut input),
-                "node" => {
-                    let mut door = ToldHub::new(rt, NAME, door(rt));
-                    config_main(&rt, alloc, words, &mut input, &mut door)
-                }
-                _ => {
-                    let mut door = door(rt);
-                    config_main(&rt, alloc, words, &mut input, &mut door)
-                }
-            };
-            if status == FAULTY || status == REFUSED {
-                explain(rt, word(words), &input);
-            }
-            status
+/// What a program serves by.
+#[derive(Clone, Copy)]
+struct Job<'a, R> {
+    rt: &'a R,
+    host: HostRuntime,
+    words: &'a [Text],
+}
+
+impl<R: Threads + Wait + Sync> Job<'_, R> {
+    /// Runs a hub or a node, and says why there is no hub where there is none. Both have one kind of door, so that the program has
+    /// all that serves links once: what is told of a node's hub concerns no hub.
+    fn run_server(&self, input: &mut Input, side: HubSide) -> u8 {
+        let host = self.host;
+        let Ok(ahead) = side.ahead() else {
+            return NO_MEMORY;
+        };
+        let door = TcpDoor::new(host, None).with_clocks_ahead(ahead);
+        let mut door = ToldHub::new(host, NAME, ToldBind::new(host, NAME, door));
+        let mut hub = FileHub::new(
+            host.alloc(),
+            host,
+            TcpNodes::new(host),
+            MachineClock::new(host),
+            side,
+        );
+        let status = config_main_by(
+            self.rt,
+            host.alloc(),
+            self.words,
+            input,
+            &mut door,
+            &mut hub,
+        );
+        if let Some(trouble) = hub.trouble() {
+            let path = hub.path();
+            let _ = eprintln!(host; "{NAME}: the journal {path}: {trouble}");
         }
+        status
+    }
+
+    /// Does what the one word says by the configuration on standard input, and says what is wrong with that.
+    fn serve(self, side: HubSide) -> u8 {
+        let host = self.host;
+        let mut input = KeptInput::new(host.alloc(), StandardInput::new(host));
+        let status = match word(self.words) {
+            "attach" => run_attach(host, &mut input),
+            _ => self.run_server(&mut input, side),
+        };
+        if status == FAULTY || status == REFUSED {
+            explain(host, word(self.words), &input);
+        }
+        status
+    }
+}
+
+/// Runs what the words say, or tells what they ask of the program.
+fn run<R: Threads + Wait + Eprint + Sync>(rt: &R, host: HostRuntime, words: &[Text]) -> u8 {
+    if let Some(asked) = Asked::of(words) {
+        asked.tell(&host, NAME, USAGE);
+        return 0;
+    }
+    let job = Job { rt, host, words };
+    let clock = MachineClock::new(host);
+    run_told(rt, host.alloc(), NAME, clock, move |side| job.serve(side))
+}
+
+fn main(rt: HostRuntime) -> ExitCode {
+    let status = match words(&rt) {
+        Ok(words) => run(&rt, rt, words.as_slice()),
         Err(NoWords::NotText) => OTHER_WORDS,
         Err(NoWords::Memory) => NO_MEMORY,
     };
