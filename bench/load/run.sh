@@ -25,7 +25,7 @@ trap 'exit 130' INT TERM
 # Starts a hub with these options and waits until it answers.
 start() {
     [ -z "$hub" ] || { kill "$hub" && wait "$hub"; } 2>/dev/null
-    "$program" --port "$port" --handlers 128 "$@" &
+    "$program" --port "$port" --handlers 128 "$@" 2>"$folder/told" &
     hub=$!
     tries=0
     until curl -s -o "$folder/status" "http://$at/status"; do

@@ -42,7 +42,7 @@ if [ ! -x "$program" ]; then
 fi
 rustc --edition 2024 -O -o "$folder/relay" "$here/main.rs" || exit 1
 
-"$program" --port "$first" --handlers 128 &
+"$program" --port "$first" --handlers 128 2>"$folder/told" &
 hub=$!
 begun="$hub"
 await "$first"
