@@ -21,7 +21,7 @@ mod writing;
 pub use crate::faults::fault_text;
 pub use crate::faulty::refused_heads_stay;
 pub use crate::frames::{
-    Body, Frame, FrameLimits, Head, LIMITS, Parts, Step, expects_continue, next_request,
+    Body, Four, Frame, FrameLimits, Head, LIMITS, Parts, Step, expects_continue, next_request,
 };
 pub use crate::laws::{
     fixed_limits, one_answer, one_head, one_reading, read_is_writable, stays, written_is_read,

@@ -12,7 +12,7 @@ use crate::fields::Framing;
 use crate::frames::{Body, Frame, FrameLimits, Head, frame_of};
 use crate::heads::{HeadStep, read_head};
 use crate::turns::{
-    HeadTurn, LineTurn, TrailersTurn, head_turn, line_turn, next_part, trailers_turn,
+    HeadTurn, LineTurn, TrailersTurn, head_turn, line_turn, next_head, next_line, trailers_turn,
 };
 use grid_types::NoMemory;
 use httparse::spans::EMPTY_HEADER_SPAN;
@@ -126,6 +126,16 @@ impl FrameReader {
         }
     }
 
+    /// Whether more bytes are awaited: whether `step` answers `More`. Takes no memory.
+    pub fn awaits(&self) -> bool
+        ensures { result ≡ awaits_more self.now }
+    {
+        !matches!(
+            self.phase,
+            Phase::Whole | Phase::BadHead(_) | Phase::BadBody(_)
+        )
+    }
+
     /// The head, where it is accepted. Takes no memory.
     pub fn head(&self) -> Option<Head<'_>>
         ensures { (limits : FrameLimits) (bytes : List ℕ) → Fed limits self.now bytes →
@@ -226,7 +236,7 @@ impl FrameReader {
     {
         let old = self.head.len();
         let room = self.limits.head as usize - old;
-        let part = next_part(piece, room, !is_blank(self.calm));
+        let part = next_head(piece, room, !is_blank(self.calm));
         let calm = calm_behind(self.calm, part);
         self.head.extend_from_slice(part)?;
         if is_calm(calm) && part.len() < room {
@@ -281,7 +291,7 @@ impl FrameReader {
     {
         let old = self.line.len();
         let room = MAX_CHUNK_LINE - old;
-        let part = next_part(piece, room, true);
+        let part = next_line(piece, room);
         let calm = calm_behind(self.calm, part);
         self.line.extend_from_slice(part)?;
         if is_calm(calm) && part.len() < room {
@@ -367,7 +377,7 @@ impl FrameReader {
     {
         let old = self.line.len();
         let room = MAX_TRAILERS - old;
-        let part = next_part(piece, room, true);
+        let part = next_line(piece, room);
         let calm = calm_behind(self.calm, part);
         self.line.extend_from_slice(part)?;
         if is_calm(calm) && part.len() < room {
