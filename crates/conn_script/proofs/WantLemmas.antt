@@ -18,7 +18,9 @@ use Rattle.conn_script.specs.declared.relaying.Relaying.{Relaying}
 use Rattle.conn_script.specs.declared.relaying.Relaying.TheVariants as relaying
 use Rattle.conn_script.specs.declared.creating.Creating.{Creating}
 use Rattle.conn_script.specs.declared.creating.Creating.TheVariants as creating
+use Rattle.conn_script.specs.declared.turn.Run.{Run}
 use Rattle.conn_script.specs.declared.turn.Run.TheVariants as run
+use Rattle.conn_script.specs.declared.wants.Want.{Want}
 use Rattle.conn_script.specs.declared.request.Whole.{Whole}
 use Rattle.conn_script.specs.declared.undoing.Undoing.{Undoing}
 use Rattle.conn_script.specs.declared.undoing.Undoing.TheVariants as undo
@@ -26,46 +28,54 @@ use Rattle.conn_script.specs.declared.wants.Want.TheVariants as wants
 use Rattle.conn_script.specs.Wanted.{Wanted, to_call, IsCall, Kind, kind_of, call_of}
 use Rattle.conn_script.specs.Creating.{want_of}
 use Rattle.conn_script.specs.Running.{start_held}
-use Rattle.conn_script.specs.Moving.{AsksFor, IsStartWant, start_goes_on, call_is_fresh, delete_is_fresh, relay_is_fresh, create_is_fresh}
+use Rattle.conn_script.specs.Moving.{AsksFor, AsksForItself, IsStartWant, start_goes_on, call_is_fresh, delete_is_fresh, relay_is_fresh, create_is_fresh}
 use Rattle.conn_script.specs.Undo.{UndoAsksFor, undo_goes_on}
 
 calls : (w : Wanted) (call : Call) → w ≡ to_call call → IsCall w
 calls w call e = subst IsCall (sym e) tt
 
-pub call_asks : (c : Calling) (whole : Whole) → call_is_fresh c ≡ true → AsksFor (run.Calling c) whole wants.Hub
-call_asks (calling.Ask call asked) whole fresh = record {
+-- what the request tells nothing of is wanted for each request
+pub for_any : (r : Run) (whole : Whole) (want : Want) → AsksForItself r want → AsksFor r whole want
+for_any r whole want asks = record {
+  readies = asks.readies;
+  of_script = asks.of_script;
+  shows = λ f aim w of x. asks.shows f aim w x;
+}
+
+pub call_asks : (c : Calling) → call_is_fresh c ≡ true → AsksForItself (run.Calling c) wants.Hub
+call_asks (calling.Ask call asked) fresh = record {
   readies = (kind_of (call_of call), refl);
   of_script = tt;
-  shows = λ f aim w of x. calls w (call_of call) x.1.0;
+  shows = λ f aim w x. calls w (call_of call) x.1.0;
 }
-call_asks (calling.Asked asked) whole fresh = absurd cc
+call_asks (calling.Asked asked) fresh = absurd cc
 
-pub delete_asks : (d : Deleting) (whole : Whole) → delete_is_fresh d ≡ true → ((c : Closing) (path : SessionPath) → ¬ (d ≡ deleting.Quit c path)) →
-    AsksFor (run.Deleting d) whole wants.Hub
-delete_asks (deleting.Lookup id) whole fresh n = record { readies = (Kind.lookup, refl); of_script = tt; shows = λ f aim w of x. calls w (Call.lookup id) x.1 }
-delete_asks (deleting.End id b) whole fresh n = record { readies = (Kind.end, refl); of_script = tt; shows = λ f aim w of x. calls w (Call.end id b) x.1 }
-delete_asks (deleting.Free c q) whole fresh n = record { readies = (Kind.freed, refl); of_script = tt; shows = λ f aim w of x. calls w (Call.freed c) x.1 }
-delete_asks (deleting.Quit c path) whole fresh n = absurd (n c path refl)
-delete_asks (deleting.LookingUp id) whole fresh n = absurd cc
-delete_asks (deleting.Ending id b) whole fresh n = absurd cc
-delete_asks (deleting.Freeing q) whole fresh n = absurd cc
+pub delete_asks : (d : Deleting) → delete_is_fresh d ≡ true → ((c : Closing) (path : SessionPath) → ¬ (d ≡ deleting.Quit c path)) →
+    AsksForItself (run.Deleting d) wants.Hub
+delete_asks (deleting.Lookup id) fresh n = record { readies = (Kind.lookup, refl); of_script = tt; shows = λ f aim w x. calls w (Call.lookup id) x.1 }
+delete_asks (deleting.End id b) fresh n = record { readies = (Kind.end, refl); of_script = tt; shows = λ f aim w x. calls w (Call.end id b) x.1 }
+delete_asks (deleting.Free c q) fresh n = record { readies = (Kind.freed, refl); of_script = tt; shows = λ f aim w x. calls w (Call.freed c) x.1 }
+delete_asks (deleting.Quit c path) fresh n = absurd (n c path refl)
+delete_asks (deleting.LookingUp id) fresh n = absurd cc
+delete_asks (deleting.Ending id b) fresh n = absurd cc
+delete_asks (deleting.Freeing q) fresh n = absurd cc
 
-pub relay_asks : (r : Relaying) (whole : Whole) → relay_is_fresh r ≡ true → ((address target : List ℕ) → ¬ (r ≡ relaying.Exchange address target)) →
-    AsksFor (run.Relaying r) whole wants.Hub
-relay_asks (relaying.Lookup id target) whole fresh n = record { readies = (Kind.lookup, refl); of_script = tt; shows = λ f aim w of x. calls w (Call.lookup id) x.1 }
-relay_asks (relaying.Touch id b address target) whole fresh n = record { readies = (Kind.touch, refl); of_script = tt; shows = λ f aim w of x. calls w (Call.touch id b) x.1 }
-relay_asks (relaying.Exchange address target) whole fresh n = absurd (n address target refl)
-relay_asks (relaying.LookingUp id target) whole fresh n = absurd cc
-relay_asks (relaying.Touching id b address target) whole fresh n = absurd cc
+pub relay_asks : (r : Relaying) → relay_is_fresh r ≡ true → ((address target : List ℕ) → ¬ (r ≡ relaying.Exchange address target)) →
+    AsksForItself (run.Relaying r) wants.Hub
+relay_asks (relaying.Lookup id target) fresh n = record { readies = (Kind.lookup, refl); of_script = tt; shows = λ f aim w x. calls w (Call.lookup id) x.1 }
+relay_asks (relaying.Touch id b address target) fresh n = record { readies = (Kind.touch, refl); of_script = tt; shows = λ f aim w x. calls w (Call.touch id b) x.1 }
+relay_asks (relaying.Exchange address target) fresh n = absurd (n address target refl)
+relay_asks (relaying.LookingUp id target) fresh n = absurd cc
+relay_asks (relaying.Touching id b address target) fresh n = absurd cc
 
-pub create_asks : (k : Creating) (whole : Whole) → create_is_fresh k ≡ true → ((t : Ticket) → ¬ (k ≡ creating.Pausing t)) →
-    ((t : Ticket) (carry : Carry) → ¬ (k ≡ creating.Starting t carry)) → AsksFor (run.Creating k) whole wants.Hub
-create_asks (creating.Enqueue choices) whole fresh n m = record { readies = (Kind.enqueue, refl); of_script = tt; shows = λ f aim w of x. calls w (Call.enqueue choices) x.1 }
-create_asks (creating.Poll t) whole fresh n m = record { readies = (Kind.poll, refl); of_script = tt; shows = λ f aim w of x. calls w (Call.poll t) x.1 }
-create_asks (creating.Pausing t) whole fresh n m = absurd (n t refl)
-create_asks (creating.Starting t carry) whole fresh n m = absurd (m t carry refl)
-create_asks creating.Enqueuing whole fresh n m = absurd cc
-create_asks (creating.Polling k) whole fresh n m = absurd cc
+pub create_asks : (k : Creating) → create_is_fresh k ≡ true → ((t : Ticket) → ¬ (k ≡ creating.Pausing t)) →
+    ((t : Ticket) (carry : Carry) → ¬ (k ≡ creating.Starting t carry)) → AsksForItself (run.Creating k) wants.Hub
+create_asks (creating.Enqueue choices) fresh n m = record { readies = (Kind.enqueue, refl); of_script = tt; shows = λ f aim w x. calls w (Call.enqueue choices) x.1 }
+create_asks (creating.Poll t) fresh n m = record { readies = (Kind.poll, refl); of_script = tt; shows = λ f aim w x. calls w (Call.poll t) x.1 }
+create_asks (creating.Pausing t) fresh n m = absurd (n t refl)
+create_asks (creating.Starting t carry) fresh n m = absurd (m t carry refl)
+create_asks creating.Enqueuing fresh n m = absurd cc
+create_asks (creating.Polling k) fresh n m = absurd cc
 
 -- ---- a start
 

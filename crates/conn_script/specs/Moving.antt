@@ -110,8 +110,10 @@ pub record AsksFor (r : Run) (whole : Whole) (want : Want) : Type 0 where
   pub shows : (f : Request) (aim : Aim) (w : Wanted) → IsOf whole f → RunWants f r aim w → Shows want w
 
 -- what is wanted of which the parts of the request tell nothing
-abbrev pub AsksForItself : Run → Want → Type 0
-AsksForItself r want = (whole : Whole) → AsksFor r whole want
+pub record AsksForItself (r : Run) (want : Want) : Type 0 where
+  pub readies : Readies want (run_awaits r) (run_held r)
+  pub of_script : IsScriptWant want
+  pub shows : (f : Request) (aim : Aim) (w : Wanted) → RunWants f r aim w → Shows want w
 
 -- the client's request, as it is passed on to this target
 abbrev pub IsPassedOn : Whole → List ℕ → NodeRequest → Type 0

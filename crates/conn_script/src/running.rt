@@ -1,8 +1,8 @@
 //! A script under way, whatever its route is: what it wants, and what each answer leads to.
-ghost use Rattle.std.specs.Prelude.{◌≡◌, true};
+ghost use Rattle.std.specs.Prelude.{◌≡◌, true, IfSome};
 ghost use Rattle.conn_script.specs.Running.{run_awaits};
 ghost use Rattle.conn_script.specs.Moving.{run_is_fresh, start_goes_on, Moves, Leaves, AsksFor, AsksForItself, IsPassedOn, IsStartWant};
-ghost use Rattle.conn_script.specs.Wanted.{IsAwaited, is_wait};
+ghost use Rattle.conn_script.specs.Wanted.{IsAwaited, came, is_wait};
 ghost use Rattle.conn_script.specs.declared.turn.Run.TheVariants as run;
 ghost use Rattle.conn_script.specs.declared.wants.Answer.TheVariants as told;
 
@@ -30,6 +30,30 @@ impl Run {
             Run::Deleting(deleting) => delete_wanted(deleting),
             Run::Relaying(relaying) => relay_wanted(relaying, whole),
             Run::Creating(creating) => create_wanted(creating),
+        }
+    }
+
+    /// What is wanted, where no part of the request under way tells it. None: the request is to be passed on; then `wanted` tells it.
+    /// Nothing changes.
+    pub fn own_want(&self) -> Option<Want<'_>>
+        requires { run_is_fresh self.now ≡ true }
+        ensures { IfSome result (AsksForItself self.now) }
+    {
+        match self {
+            Run::Calling(_) => Some(Want::Hub),
+            Run::Deleting(deleting) => Some(delete_wanted(deleting)),
+            Run::Relaying(relaying) => relay_own_want(relaying),
+            Run::Creating(creating) => Some(create_wanted(creating)),
+        }
+    }
+
+    /// Whether the request under way is being passed on, so that what its node answers is awaited.
+    pub fn passes_on(&self) -> bool
+        ensures { result ≡ true → run_awaits self.now ≡ came }
+    {
+        match self {
+            Run::Relaying(relaying) => relay_passes_on(relaying),
+            _ => false,
         }
     }
 
@@ -116,17 +140,39 @@ fn relay_wanted<'a>(relaying: &'a Relaying, whole: Whole<'a>) -> Want<'a>
     }
 }
 
+fn relay_own_want(relaying: &Relaying) -> Option<Want<'_>>
+    requires { run_is_fresh (run.Relaying relaying.now) ≡ true }
+    ensures { IfSome result (AsksForItself (run.Relaying relaying.now)) }
+{
+    match relaying {
+        Relaying::Exchange(_, _) => None,
+        _ => Some(Want::Hub),
+    }
+}
+
+fn relay_passes_on(relaying: &Relaying) -> bool
+    ensures { result ≡ true → run_awaits (run.Relaying relaying.now) ≡ came }
+{
+    matches!(relaying, Relaying::Exchange(_, _))
+}
+
 /// The request of the client, as it is passed on.
 fn relay_request<'a>(whole: Whole<'a>, target: &'a [u8]) -> NodeRequest<'a>
     ensures { IsPassedOn whole.entry target.now result }
 {
+    let found = whole.head.find_four(
+        b"accept",
+        b"accept-encoding",
+        b"content-type",
+        b"content-encoding",
+    );
     NodeRequest {
         method: whole.method,
         target,
-        accept: whole.head.find(b"accept"),
-        accept_encoding: whole.head.find(b"accept-encoding"),
-        content_type: whole.head.find(b"content-type"),
-        content_encoding: whole.head.find(b"content-encoding"),
+        accept: found.first,
+        accept_encoding: found.second,
+        content_type: found.third,
+        content_encoding: found.fourth,
         body: whole.body,
     }
 }
