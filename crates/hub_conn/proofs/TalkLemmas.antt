@@ -31,7 +31,7 @@ use Rattle.conn_script.specs.Begin.{BegunLacks}
 use Rattle.conn_script.specs.Responses.{continue_text}
 use Rattle.conn_script.specs.Wanted.{Wanted, to_read, to_write, to_begin, to_call, to_ask, to_pause, over, Shows, IsOver, IsScriptWant, Awaited, piece, count, begun, answer_to, Readies, Kind, kind_of, call_of, call_tokens}
 use Rattle.conn_script.specs.Running.{IsTaken, run_awaits, run_held, run_tokens, start_awaits}
-use Rattle.conn_script.specs.Moving.{AsksFor}
+use Rattle.conn_script.specs.Moving.{AsksFor, AsksForItself}
 use Rattle.conn_script.specs.Undo.{UndoAsksFor, IsUndoTaken, undo_awaits, undo_held, undo_leaves, undo_tokens}
 use Rattle.hub_conn.specs.declared.talk.Talk.{Talk}
 use Rattle.hub_conn.specs.declared.talk.State.{State}
@@ -39,7 +39,7 @@ use Rattle.hub_conn.specs.declared.talk.State.TheVariants as states
 use Rattle.hub_conn.specs.declared.talk.Outgoing.{Outgoing}
 use Rattle.hub_conn.specs.Conversation.{MemoryBroke, before_request, Waits, none as none_yet}
 use Rattle.hub_conn.specs.Inbox.{unread, Holds, HoldsWhole}
-use Rattle.hub_conn.specs.Talk.{Rests, Answered, Standing, awaited, state_awaits, held, state_held, tokens, state_tokens, Cause, result_cause, blamed, state_cause, HandsOut, Says, Takes, IsHeld, IsNew, Settles, WaitsRightly, of_nothing}
+use Rattle.hub_conn.specs.Talk.{Stands, Rests, Answered, Standing, awaited, state_awaits, held, state_held, tokens, state_tokens, Cause, result_cause, blamed, state_cause, HandsOut, Says, Takes, IsHeld, IsNew, Settles, WaitsRightly, of_nothing}
 use Rattle.hub_conn.proofs.ReadLemmas.{WholeTakes}
 use Rattle.hub_conn.proofs.StateLemmas.{stands_in, in_state_of, counts_kept, leaves_in, settles_in}
 use Rattle.hub_conn.proofs.WorkLemmas.{run_kept, undo_kept}
@@ -201,27 +201,37 @@ says_nothing (wants.Write b) w own bytes steps written e x = absurd x
 says_nothing wants.Begin w own bytes steps written e x = absurd x
 says_nothing (wants.Done r) w own bytes steps written e x = absurd x
 
-pub hands_run : (talk : Talk) (run : Run) (whole : Whole) (want : Want) → talk.state ≡ states.Running run → AsksFor run whole want →
-    ((rest : List ℕ) (f : Request) → HoldsWhole talk.inbox rest f → IsOf whole f) → HandsOut talk want
-hands_run talk run whole want e asks of = record {
-  readies = readies_in want asks.readies;
-  tells = λ own w bytes steps written st.
+module _ (talk : Talk) (run : Run) (want : Want) (e : talk.state ≡ states.Running run) where
+  readies_in : Readies want (run_awaits run) (run_held run) → Readies want (awaited talk) (held talk)
+  readies_in r =
+      subst (λ (a : Awaited). Readies want a (held talk)) (sym (awaits_in talk (states.Running run) (run_awaits run) e refl))
+      (subst (λ (k : Option Kind). Readies want (run_awaits run) k) (sym (held_in talk (states.Running run) (run_held run) e refl)) r)
+
+  hands_shown : Readies want (run_awaits run) (run_held run) → IsScriptWant want →
+      ((own : Option (List ℕ)) (w : Wanted) (bytes : List ℕ) (steps : List Step) (written : List ℕ) → Stands talk own w bytes steps written → Shows want w) → HandsOut talk want
+  hands_shown ready script shown = record {
+    readies = readies_in ready;
+    tells = λ own w bytes steps written st.
+        let shows : Shows want w = shown own w bytes steps written st in record {
+          shows = shows;
+          says = says_nothing want w own bytes steps written shows script;
+        };
+    no_tokens = λ o. absurd (no_end want script o);
+    unblamed = λ same. absurd (subst IsScriptWant same script);
+    few = λ text same. absurd (subst IsScriptWant same script);
+    blames = λ result end. absurd (subst IsScriptWant end script);
+  }
+
+  pub hands_run : (whole : Whole) → AsksFor run whole want →
+      ((rest : List ℕ) (f : Request) → HoldsWhole talk.inbox rest f → IsOf whole f) → HandsOut talk want
+  hands_run whole asks of = hands_shown asks.readies asks.of_script (λ own w bytes steps written st.
       let x = in_state_of talk (states.Running run) own w bytes steps written e st in
-      let f = x.in_state.0 in
-      let shows : Shows want w = asks.shows f x.aim w (of x.rest f x.in_state.1.holds) x.in_state.2.wants in record {
-        shows = shows;
-        says = says_nothing want w own bytes steps written shows asks.of_script;
-      };
-  no_tokens = λ o. absurd (no_end want asks.of_script o);
-  unblamed = λ same. absurd (subst IsScriptWant same asks.of_script);
-  few = λ text same. absurd (subst IsScriptWant same asks.of_script);
-  blames = λ result end. absurd (subst IsScriptWant end asks.of_script);
-}
-  where
-    readies_in : (want : Want) → Readies want (run_awaits run) (run_held run) → Readies want (awaited talk) (held talk)
-    readies_in want r =
-        subst (λ (a : Awaited). Readies want a (held talk)) (sym (awaits_in talk (states.Running run) (run_awaits run) e refl))
-        (subst (λ (k : Option Kind). Readies want (run_awaits run) k) (sym (held_in talk (states.Running run) (run_held run) e refl)) r)
+      asks.shows x.in_state.0 x.aim w (of x.rest x.in_state.0 x.in_state.1.holds) x.in_state.2.wants)
+
+  pub hands_own : AsksForItself run want → HandsOut talk want
+  hands_own asks = hands_shown asks.readies asks.of_script (λ own w bytes steps written st.
+      let x = in_state_of talk (states.Running run) own w bytes steps written e st in
+      asks.shows x.in_state.0 x.aim w x.in_state.2.wants)
 
 pub hands_undo : (talk : Talk) (fault : ConnFault) (u : Undoing) (want : Want) → talk.state ≡ states.Undoing fault u → UndoAsksFor u want → HandsOut talk want
 hands_undo talk fault u want e asks = record {

@@ -127,10 +127,7 @@ impl Inbox {
             × (self.now.fed < length self.now.piece.items) }
         ensures no { result ≡ false → IsFilled self.now }
     {
-        match self.reader.step() {
-            ReaderStep::More { .. } => self.fed < self.piece.len(),
-            _ => false,
-        }
+        self.reader.awaits() && self.fed < self.piece.len()
     }
 
     /// What stands at the front, once it was read on.

@@ -107,7 +107,7 @@ fn continue_from(sent: usize) -> &'static [u8]
 
 #[tactic(auto, unfolding(crate::specs::Talk::Stands, crate::specs::Talk::is_fresh, crate::specs::Talk::awaited, crate::specs::Talk::held, crate::specs::Talk::blamed, crate::specs::Talk::tokens, crate::specs::Talk::leaves, crate::specs::Talk::writes_bytes))]
 impl Talk {
-    ghost use Rattle.conn_script.specs.Wanted.{IsAwaited, is_wait};
+    ghost use Rattle.conn_script.specs.Wanted.{IsAwaited, came, is_wait};
     ghost use Rattle.hub_conn.specs.Talk.{is_fresh, awaited, held, StandsForSome, IsNew, HandsOut, Takes, Feeds, IsHeld, Rests, is_serving, writes_bytes, IsKept};
 
     /// A connection of which nothing was read. Takes no memory.
@@ -141,7 +141,10 @@ impl Talk {
             State::Reading => Want::Read(PIECE.min(LIMIT - self.read) as u32),
             State::Continuing(sent) => Want::Write(continue_from(*sent)),
             State::Beginning => Want::Begin,
-            State::Running(run) => run.wanted(self.inbox.whole()),
+            State::Running(run) => match run.own_want() {
+                Some(want) => want,
+                None => run.wanted(self.inbox.whole()),
+            },
             State::Writing(out) => Want::Write(out.piece()),
             State::Undoing(_, undoing) => undoing.wanted(),
             State::Done(result) => Want::Done(*result),
@@ -195,6 +198,16 @@ impl Talk {
     {
         match &self.state {
             State::Running(run) => run.waits(),
+            _ => false,
+        }
+    }
+
+    /// Whether a request is being passed on, so that what its node answers is awaited. Takes no memory.
+    pub fn passes_on(&self) -> bool
+        ensures { result ≡ true → awaited self.now ≡ came }
+    {
+        match &self.state {
+            State::Running(run) => run.passes_on(),
             _ => false,
         }
     }

@@ -1,5 +1,5 @@
 use Rattle.std.proofs.Common.{arith}
-use Rattle.hub_conn.proofs.TalkLemmas.{hands_read, hands_continue, hands_write, hands_begin, hands_run, hands_done}
+use Rattle.hub_conn.proofs.TalkLemmas.{hands_read, hands_continue, hands_write, hands_begin, hands_run, hands_own, hands_done}
 use Rattle.hub_conn.proofs.FeedLemmas.{running_some, continuing_some, writing_some}
 use Rattle.hub_conn.proofs.talk.Talk.next.Goals as goal
 
@@ -19,9 +19,12 @@ returns-in-Continuing c =
     hands_continue c.args.self.now c.in-Continuing.sent c.continue_from.result c.in-Continuing.is c.continue_from.ensures
     (continuing_some c.args.self.now c.in-Continuing.sent c.in-Continuing.is c.requires.stands).1
 
-pub returns-in-Running : goal.returns-in-Running
-returns-in-Running c =
-    hands_run c.args.self.now c.in-Running.run' c.whole.result c.wanted.result c.in-Running.is c.wanted.ensures (λ rest f x. c.whole.ensures rest f x)
+pub returns-in-None : goal.returns-in-None
+returns-in-None c =
+    hands_run c.args.self.now c.in-Running.run' c.wanted.result c.in-Running.is c.whole.result c.wanted.ensures (λ rest f x. c.whole.ensures rest f x)
+
+pub returns-in-Some : goal.returns-in-Some
+returns-in-Some c = hands_own c.args.self.now c.in-Running.run' c.in-Some.want c.in-Running.is c.in-Some.ensures
 
 pub returns-in-Beginning : goal.returns-in-Beginning
 returns-in-Beginning c = hands_begin (λ limits buf h parts behind x. c.stays.ensures.some limits buf h parts behind x) c.args.self.now c.in-Beginning.is
