@@ -15,12 +15,15 @@ use Rattle.conn_script.specs.declared.wants.Want.TheVariants as wants
 use Rattle.conn_script.specs.Wanted.{IsCall, Shows, Wanted, to_read, to_write, to_begin, to_call, to_ask, to_pause, over}
 use Rattle.hub_conn.specs.declared.talk.Talk.{Talk}
 use Rattle.hub_conn.specs.Talk.{Feeds, HandsOut, IsNew}
-use Rattle.hub_workers.specs.World.{Knowledge, world_of}
+use Rattle.hub_conn.specs.WantLaws.{WantLaws}
+use Rattle.hub_workers.specs.World.{Knowledge, World, world_of}
 use Rattle.hub_serving.specs.Outside.{Outside, outside_of}
 use Rattle.hub_serving.specs.Serving.{EndedSo, Serving, Turned}
-use Rattle.hub_serving.specs.Seats.{AsksFor, Sits, seen_by}
+use Rattle.hub_serving.specs.declared.stepping.Act.{Act}
+use Rattle.hub_serving.specs.declared.stepping.Act.TheVariants as acts
+use Rattle.hub_serving.specs.Seats.{AsksFor, GoesSo, Sits, TakesPiece, TakesReply, seen_by}
 use Rattle.hub_workers.specs.SharedClock.{SharedTells}
-use Rattle.hub_serving.proofs.TurnLemmas.{node_turn}
+use Rattle.hub_serving.proofs.TurnLemmas.{asked_turn, begin_turn, read_turn}
 use Rattle.hub_serving.proofs.ServedLemmas.{serving_start}
 
 -- a want that is no exchange
@@ -66,6 +69,15 @@ module _ (asks : Option (List ℕ × Ask) → Type 0) where
   no_ask (wants.Pause ms) w plain shows h = subst (λ (x : Wanted). AsksFor asks x) shows h
   no_ask (wants.Done result) w plain shows h = subst (λ (x : Wanted). AsksFor asks x) shows h
 
+  asked_for : (w : Wanted) → AsksFor asks w → (address : List ℕ) × (ask : Ask) × (w ≡ to_ask address ask) × asks (Some (address, ask))
+  asked_for (to_ask address ask) h = (address, ask, refl, h)
+  asked_for (to_read most) h = absurd h
+  asked_for (to_write unsent) h = absurd h
+  asked_for to_begin h = absurd h
+  asked_for (to_call call) h = absurd h
+  asked_for (to_pause ms) h = absurd h
+  asked_for (over result) h = absurd h
+
   is_idle : (asking : Bool) → (asking ≡ true → ⊥) → (asking ≡ false → asks None) → asks None
   is_idle true never idle = absurd (never refl)
   is_idle false never idle = idle refl
@@ -101,6 +113,31 @@ module _ {S N C : Type 0} (hub : SharedHub) (gives : S → List ℕ → Ask → 
         (λ was. no_ask (asks nodes) want s.serving.want plain (hands.tells None s.serving.want s.serving.bytes s.serving.steps s.serving.written s.serving.stands).shows (s.asked was)) s.idle;
   }
 
+  -- a piece was read and taken in, or there is none
+  pub took_piece : (laws : WantLaws) (act : Act) (talk new : Talk) (want : Want) (most : ℕ) (nodes : N) (asking asking' : Bool) (w : World S C) (l m : LinkView) → HandsOut talk want → want ≡ wants.Read most →
+      TakesPiece act most talk l asking new m asking' →
+      GoesSo hub gives asks tells view act talk nodes asking (outside_of w l) new nodes asking' (outside_of w m)
+  took_piece laws acts.GoesOn talk new want most nodes asking asking' w l m hands is taken = λ first s.
+      subst (λ (b : Bool). Sits hub gives asks tells view first new nodes b (outside_of w m)) (sym taken.3)
+      (goes_on talk new want nodes asking (outside_of w l) (outside_of w m) hands (subst IsNoAsk (sym is) tt)
+      (read_turn hub gives (SharedTells tells view) laws talk new want most taken.0 w l m hands is taken.1 taken.2) first s)
+  took_piece laws (acts.Rests rest) talk new want most nodes asking asking' w l m hands is taken =
+      let same = ap (λ (x : LinkView). outside_of w x) taken.1 in (
+        same,
+        λ first s.
+            subst (λ (b : Bool). Sits hub gives asks tells view first new nodes b (outside_of w m)) (sym taken.2)
+            (subst (λ (t : Talk). Sits hub gives asks tells view first t nodes asking (outside_of w m)) (sym taken.0)
+            (stays first talk nodes asking (outside_of w l) (outside_of w m) same s)),
+      )
+  took_piece laws (acts.Over result) talk new want most nodes asking asking' w l m hands is taken = absurd taken
+
+  -- what goes before a request was done
+  pub begun : (talk new : Talk) (want : Want) (nodes : N) (asking asking' : Bool) (o : Outside S C) → HandsOut talk want → want ≡ wants.Begin → Feeds talk told.Begun new → asking' ≡ false →
+      (first : Outside S C) → Sits hub gives asks tells view first talk nodes asking o → Sits hub gives asks tells view first new nodes asking' o
+  begun talk new want nodes asking asking' o hands is feeds off first s =
+      subst (λ (b : Bool). Sits hub gives asks tells view first new nodes b o) (sym off)
+      (goes_on talk new want nodes asking o o hands (subst IsNoAsk (sym is) tt) (begin_turn hub gives (SharedTells tells view) talk new want o hands is feeds) first s)
+
   pub ends : (talk later : Talk) (nodes : N) (asking : Bool) (result : Result Served ConnFault) (o : Outside S C) → Turned hub gives (SharedTells tells view) talk o (Some result) later o →
       (first : Outside S C) → Sits hub gives asks tells view first talk nodes asking o → EndedSo hub gives (SharedTells tells view) first result o
   ends talk later nodes asking result o turned first s = turned first s.serving
@@ -134,16 +171,32 @@ module _ {S N C : Type 0} (hub : SharedHub) (gives : S → List ℕ → Ask → 
   waits talk nodes later asking before after keeps e first s =
       stays first talk later asking before after e (waits_from talk nodes later asking before keeps first s)
 
-  pub has_come : (talk new : Talk) (want : Want) (address : List ℕ) (request : NodeRequest) (came : Came) (v : Knowledge) (nodes later : N) (asking : Bool) (faults : S → ℕ) (st st' : S)
-      (m : C) (time : ClockView) (l : LinkView) →
-      HandsOut talk want → want ≡ wants.Node address request → Feeds talk (told.Node came) new → asking ≡ true →
+  has_answered : (talk new : Talk) (came : Came) (v : Knowledge) (nodes later : N) (asking : Bool) (faults : S → ℕ) (st st' : S) (m : C) (time : ClockView) (l : LinkView) →
+      Feeds talk (told.Node came) new → asking ≡ true →
       ((a : List ℕ) (k : Ask) → asks nodes (Some (a, k)) → CameSo gives faults st a k came st') → asks later None →
       (first : Outside S C) → Sits hub gives asks tells view first talk nodes asking (outside_of (world_of v st m time) l) →
       Sits hub gives asks tells view first new later false (outside_of (world_of v st' m time) l)
-  has_come talk new want address request came v nodes later asking faults st st' m time l hands is feeds was gave idle first s =
-      let asked = subst (λ (w : Wanted). AsksFor (asks nodes) w) (asks_so first talk (outside_of (world_of v st m time) l) want address request s.serving hands is) (s.asked was) in
+  has_answered talk new came v nodes later asking faults st st' m time l feeds was gave idle first s =
+      let x = asked_for (asks nodes) s.serving.want (s.asked was) in
       record {
-        serving = node_turn hub gives (SharedTells tells view) talk new want address request came v st st' m time l hands is feeds (gave address (ask_of request) asked).gave first s.serving;
+        serving = asked_turn hub gives (SharedTells tells view) first talk new x.0 x.1 came v st st' m time l s.serving x.2 feeds (gave x.0 x.1 x.3).gave;
         asked = λ e. absurd cc;
         idle = λ e. idle;
       }
+
+  -- what has come of the exchange under way was taken in, or nothing has come
+  pub replied : (act : Act) (talk new : Talk) (v : Knowledge) (nodes later : N) (asking asking' : Bool) (faults : S → ℕ) (st st' : S) (m : C) (time : ClockView) (l : LinkView) → asking ≡ true →
+      TakesReply gives asks faults act talk st nodes asking new st' later asking' →
+      GoesSo hub gives asks tells view act talk nodes asking (outside_of (world_of v st m time) l) new later asking' (outside_of (world_of v st' m time) l)
+  replied acts.GoesOn talk new v nodes later asking asking' faults st st' m time l was taken = λ first s.
+      subst (λ (b : Bool). Sits hub gives asks tells view first new later b (outside_of (world_of v st' m time) l)) (sym taken.4)
+      (has_answered talk new taken.0 v nodes later asking faults st st' m time l taken.1 was taken.2 taken.3 first s)
+  replied (acts.Rests rest) talk new v nodes later asking asking' faults st st' m time l was taken =
+      let same = ap (λ (x : S). outside_of (world_of v x m time) l) taken.1 in (
+        same,
+        λ first s.
+            subst (λ (b : Bool). Sits hub gives asks tells view first new later b (outside_of (world_of v st' m time) l)) (sym taken.3)
+            (subst (λ (t : Talk). Sits hub gives asks tells view first t later asking (outside_of (world_of v st' m time) l)) (sym taken.0)
+            (waits talk nodes later asking (outside_of (world_of v st m time) l) (outside_of (world_of v st' m time) l) taken.2 same first s)),
+      )
+  replied (acts.Over result) talk new v nodes later asking asking' faults st st' m time l was taken = absurd taken

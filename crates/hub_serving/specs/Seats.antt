@@ -1,15 +1,18 @@
 -- What one step of a connection does that shares its thread with others.
-use Rattle.std.specs.Prelude.{◌≡◌, ℕ, Bool, true, false, List, None, Some, Option, Result}
+use Rattle.std.specs.Prelude.{◌≡◌, ℕ, Bool, true, false, List, [], None, Some, Option, Result}
 use Rattle.grid_outside.specs.Lines.{LooksSo}
 use Rattle.grid_outside.specs.Told.{ClockView, LinkView, Tick, untold}
 use Rattle.grid_outside.specs.declared.exchange.Ask.{Ask}
-use Rattle.grid_outside.specs.Exchanges.{Came}
+use Rattle.grid_outside.specs.Exchanges.{Came, CameSo}
 use Rattle.hub_cell.specs.declared.hub.SharedHub.{SharedHub}
 use Rattle.hub_cell.specs.declared.hub.Pass.{Pass}
 use Rattle.hub_cell.specs.Passes.{knows}
-use Rattle.conn_script.specs.Wanted.{Wanted, is_wait, to_read, to_write, to_begin, to_call, to_ask, to_pause, over}
+use Rattle.conn_script.specs.Wanted.{Wanted, bytes_in, is_wait, piece, to_read, to_write, to_begin, to_call, to_ask, to_pause, over}
 use Rattle.hub_conn.specs.declared.talk.Talk.{Talk}
-use Rattle.hub_conn.specs.Talk.{awaited}
+use Rattle.conn_script.specs.declared.wants.Answer.{Answer}
+use Rattle.conn_script.specs.declared.wants.Answer.TheVariants as told
+use Rattle.hub_conn.specs.Talk.{Feeds, awaited}
+use Rattle.hub_links.specs.Links.{DoesLink}
 use Rattle.hub_workers.specs.World.{world_of}
 use Rattle.hub_serving.specs.declared.stepping.Act.{Act}
 use Rattle.hub_serving.specs.declared.stepping.Act.TheVariants as acts
@@ -37,6 +40,27 @@ AsksFor asks to_begin = ⊥
 AsksFor asks (to_call call) = ⊥
 AsksFor asks (to_pause ms) = ⊥
 AsksFor asks (over result) = ⊥
+
+-- What has come of the exchange under way was taken in, and none is under way then; or nothing has come, and nothing has changed.
+abbrev pub TakesReply : {S N : Type 0} (gives : S → List ℕ → Ask → Came → S → Type 0) (asks : N → Option (List ℕ × Ask) → Type 0) (faults : S → ℕ) →
+    Act → Talk → S → N → Bool → Talk → S → N → Bool → Type 0
+TakesReply gives asks faults acts.GoesOn talk state nodes asking talk_after state_after nodes_after asking_after =
+    (came : Came) × Feeds talk (told.Node came) talk_after
+    × ((address : List ℕ) (ask : Ask) → asks nodes (Some (address, ask)) → CameSo gives faults state address ask came state_after)
+    × asks nodes_after None × (asking_after ≡ false)
+TakesReply gives asks faults (acts.Rests rest) talk state nodes asking talk_after state_after nodes_after asking_after =
+    (talk_after ≡ talk) × (state_after ≡ state)
+    × ((under : Option (List ℕ × Ask)) → asks nodes under → asks nodes_after under) × (asking_after ≡ asking)
+TakesReply gives asks faults (acts.Over result) talk state nodes asking talk_after state_after nodes_after asking_after = ⊥
+
+-- A piece of what is there was read and taken in; or nothing is there, and nothing has changed.
+abbrev pub TakesPiece : Act → ℕ → Talk → LinkView → Bool → Talk → LinkView → Bool → Type 0
+TakesPiece acts.GoesOn most talk line asking talk_after line_after asking_after =
+    (answer : Answer) × DoesLink answer (piece most) line (bytes_in answer) [] line_after
+    × Feeds talk answer talk_after × (asking_after ≡ false)
+TakesPiece (acts.Rests rest) most talk line asking talk_after line_after asking_after =
+    (talk_after ≡ talk) × (line_after ≡ line) × (asking_after ≡ asking)
+TakesPiece (acts.Over result) most talk line asking talk_after line_after asking_after = ⊥
 
 module _ {S N C : Type 0} (hub : SharedHub) (gives : S → List ℕ → Ask → Came → S → Type 0) (asks : N → Option (List ℕ × Ask) → Type 0)
     (tells : C → Tick → ℕ → C → Type 0) (view : C → ClockView) where
