@@ -17,7 +17,7 @@ use std::sync::Wait;
 use std::sync::atomic::{AtomicBool, Ordering};
 use std::thread::{Threads, join};
 
-/// The milliseconds until workers look again whether there is something to start.
+/// The milliseconds after which a worker looks again whether there is something to start.
 const PAUSE_MS: u64 = 15;
 
 /// At most so many places are told of at once.
@@ -57,7 +57,14 @@ fn hire<G: Gate>(
     }
 }
 
-/// Lets the hands do what they can do, again and again, until all else is done.
+/// How long to wait where nobody may go on at once: so long that each of so many hands that begin one behind the other looks in a part
+/// of the pause of its own.
+fn share_of_pause(count: usize) -> u64 {
+    (PAUSE_MS / (count as u64).max(1)).max(1)
+}
+
+/// Lets the hands do what they can do, again and again, until all else is done. They begin one behind the other, since what is to be
+/// started soon is found soonest where they don't all look at the same time.
 fn keep_going<R: Wait, G: Gate>(
     rt: &R,
     alloc: Global,
@@ -70,13 +77,16 @@ fn keep_going<R: Wait, G: Gate>(
     requires { All (IsHand hub.now G.N.NodeLine.state G.N.NodeLine.gives G.N.NodeLine.asks
         G.C.Clock.gives G.C.Clock.view) hands.old.items }
 {
+    let pause = share_of_pause(hands.len());
+    let mut begun = 0usize;
     for _ in rt.forever() {
         if done.load(Ordering::SeqCst) {
             return;
         }
-        let soon = go_on_all(rt, alloc, hub, hands);
+        begun = begun.saturating_add(1);
+        let soon = go_on_all(rt, alloc, hub, hands, begun);
         ready.clear();
-        gate.wait(if soon { 0 } else { PAUSE_MS }, ready);
+        gate.wait(if soon { 0 } else { pause }, ready);
     }
 }
 

@@ -90,9 +90,9 @@ impl<L: Line + Drop, N: NodeLine + Drop, C: Clock + Drop> Crowd<L, N, C> {
         self.open == 0
     }
 
-    /// Whether some connection may go on at once.
-    pub(crate) fn is_soon(&self) -> bool {
-        self.diary.is_soon()
+    /// For how many milliseconds no connection is to be looked at whose line and node have nothing.
+    pub(crate) fn leave_alone(&self) -> u64 {
+        self.diary.leave()
     }
 
     /// A place at which no connection stands, which is kept for one.

@@ -59,6 +59,8 @@ pub(crate) struct Diary {
     soon: bool,
     /// When it was looked last.
     looked: u64,
+    /// No connection is to be looked at before.
+    nearest: u64,
 }
 
 /// Where the look goes on behind the place.
@@ -88,6 +90,7 @@ impl Diary {
             all: 0,
             soon: false,
             looked: 0,
+            nearest: NEVER,
         })
     }
 
@@ -96,6 +99,7 @@ impl Diary {
             let paused = slot.pauses;
             slot.due = due;
             slot.pauses = pauses;
+            self.nearest = self.nearest.min(due);
             self.count(paused, pauses);
             self.reach = self.reach.max(place.saturating_add(1));
         }
@@ -173,6 +177,7 @@ impl Diary {
             return false;
         };
         if slot.due > at {
+            self.nearest = self.nearest.min(slot.due);
             return false;
         }
         slot.due = NEVER;
@@ -195,6 +200,7 @@ impl Diary {
         self.tell(all);
         self.looked = at;
         self.soon = false;
+        self.nearest = NEVER;
         let mut woken = 0usize;
         for _ in 0..self.reach {
             if woken == WAKES || ready.len() == ready.capacity() {
@@ -215,8 +221,12 @@ impl Diary {
         self.reach
     }
 
-    /// Whether some connection may go on at once.
-    pub(crate) fn is_soon(&self) -> bool {
-        self.soon
+    /// For how many milliseconds no connection is to be looked at whose line and node have nothing, since it was looked last.
+    pub(crate) fn leave(&self) -> u64 {
+        if self.soon {
+            0
+        } else {
+            self.nearest.saturating_sub(self.looked)
+        }
     }
 }

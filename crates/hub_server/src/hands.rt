@@ -106,20 +106,25 @@ pub(crate) fn keep_hand<N: NodeLine + Drop, C: Clock + Drop>(
     let _ = hands.push(hand);
 }
 
-/// Each of them does what it can do now. True: some may go on at once.
+/// Each of the first `count` of them does what it can do now. True: some may go on at once.
 pub(crate) fn go_on_all<R: Wait, N: NodeLine + Drop, C: Clock + Drop>(
     rt: &R,
     alloc: Global,
     hub: &SharedHub,
     hands: &mut Vec<Hand<N, C>>,
+    count: usize,
 ) -> bool
     requires { All (IsHand hub.now N.state N.gives N.asks C.gives C.view) hands.old.items }
     ensures { All (IsHand hub.now N.state N.gives N.asks C.gives C.view) hands.new.items }
 {
     let mut soon = false;
+    let mut left = count;
     for hand in hands.iter_mut() {
-        if hand.go_on(rt, alloc, hub) {
-            soon = true;
+        if left > 0 {
+            left -= 1;
+            if hand.go_on(rt, alloc, hub) {
+                soon = true;
+            }
         }
     }
     soon

@@ -12,7 +12,7 @@ use hub_cell::Pass;
 use std::alloc::Global;
 use std::sync::Wait;
 
-/// A loop waits at most so many milliseconds until it looks whose pause is over.
+/// A loop waits at most so many milliseconds until it looks whether something is to be done.
 const TICK_MS: u64 = 20;
 
 /// So many new connections are taken in before the others go on.
@@ -93,7 +93,7 @@ fn make_round<R: Wait, G: Gate>(
     ensures { IsCrowd desk.now.hub.now G.L.Line.view G.N.NodeLine.state G.N.NodeLine.gives
         G.N.NodeLine.asks G.C.Clock.gives G.C.Clock.view crowd.new }
 {
-    let limit = if crowd.is_soon() { 0 } else { TICK_MS };
+    let limit = crowd.leave_alone().min(TICK_MS);
     ready.clear();
     gate.wait(limit, ready);
     let at = crowd.now();
