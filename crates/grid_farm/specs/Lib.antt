@@ -1,5 +1,6 @@
 pub mod Kinds
 pub mod Uses
+pub mod Orders
 pub mod Counts
 pub mod Hours
 pub mod Farms

@@ -1,6 +1,6 @@
--- Which slots are in use after a change, which nodes are draining, and what they are like.
-use Rattle.std.specs.Prelude.{ℕ, Bool, true, false, not, ◌&&◌, nat_eq, List, [], ◌∷◌, ◌++◌, Option, None, Some, filter, find, is_some, if◌then◌else◌}
-use Rattle.std.specs.List.{list_any}
+-- Which slots are in use after a change, in order, which nodes are draining, and what they are like.
+use Rattle.std.specs.Prelude.{ℕ, Bool, true, false, not, ◌&&◌, ◌||◌, nat_eq, nat_lt, List, [], ◌∷◌, ◌++◌, Option, None, Some, filter, find, is_some, if◌then◌else◌}
+use Rattle.std.specs.List.{insert, list_any, position_or_len}
 use Rattle.grid_types.specs.declared.entry.Change.{Change}
 use Rattle.grid_types.specs.declared.entry.Change.TheVariants as change
 use Rattle.grid_types.specs.declared.names.SlotId.{SlotId}
@@ -16,9 +16,21 @@ use Rattle.grid_farm.specs.declared.rows.UseRow.{UseRow}
 abbrev pub without_slot : SlotId → List UseRow → List UseRow
 without_slot slot rows = filter (λ row. not (slot_eq row.slot slot)) rows
 
+-- slots stand by the numbers of their nodes, and those of a node by their own
+abbrev pub comes_before : SlotId → SlotId → Bool
+comes_before slot other =
+    nat_lt slot.node other.node
+    || (nat_eq slot.node other.node && nat_lt slot.index other.index)
+
+-- how many rows stand before the first whose slot comes behind this one
+abbrev pub place_of : SlotId → List UseRow → ℕ
+place_of slot rows = position_or_len (λ row. comes_before slot row.slot) rows
+
 -- the slot is used so from here on
 abbrev pub with_slot : SlotId → SlotUse → List UseRow → List UseRow
-with_slot slot state rows = without_slot slot rows ++ record { slot = slot; state = state } ∷ []
+with_slot slot state rows =
+    insert (without_slot slot rows) (place_of slot (without_slot slot rows))
+    (record { slot = slot; state = state })
 
 -- the slot of a session that has ended is closed, where it ran
 abbrev pub with_ended : Option SessionRow → List UseRow → List UseRow

@@ -1,10 +1,10 @@
 //! The last hour of a journal.
 ghost use Rattle.std.specs.Prelude.{◌≡◌, ◌++◌, ◌∷◌, [], filter, OnOk};
-ghost use Rattle.grid_types.specs.History.{moment_of};
 ghost use Rattle.grid_farm.specs.Hours.{clock_after, hour_after, is_within_hour, minute_of, no_hour, row_with};
 ghost use Rattle.grid_farm.specs.Known.{told_hour};
 
 use crate::rows::MinuteRow;
+use grid_log::moment_of;
 use grid_types::{Change, NoMemory};
 use std::alloc::Global;
 
@@ -19,29 +19,6 @@ const MINUTES: u64 = 60;
 pub struct LastHour {
     pub last: MinuteRow,
     pub earlier: Vec<MinuteRow>,
-}
-
-fn moment_of(change: &Change) -> Option<u64>
-    ensures { result ≡ moment_of change.now }
-{
-    match change {
-        Change::Registered { at, .. }
-        | Change::Beaten { at, .. }
-        | Change::Draining { at, .. }
-        | Change::Removed { at, .. }
-        | Change::Lapsed { at, .. }
-        | Change::Queued { at, .. }
-        | Change::Reserved { at, .. }
-        | Change::Bound { at, .. }
-        | Change::Failed { at, .. }
-        | Change::TimedOut { at, .. }
-        | Change::Cleared { at, .. }
-        | Change::Taken { at, .. }
-        | Change::Touched { at, .. }
-        | Change::Ended { at, .. }
-        | Change::Suspected { at, .. } => Some(at.0),
-        Change::Freed { .. } => None,
-    }
 }
 
 /// The greatest moment so far.

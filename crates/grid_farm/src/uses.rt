@@ -1,8 +1,9 @@
 //! Which slots are in use, and which nodes are draining.
-ghost use Rattle.std.specs.Prelude.{◌≡◌, ◌++◌, ◌∷◌, [], not, nat_eq, filter, OnOk, option_copied};
+ghost use Rattle.std.specs.Prelude.{◌≡◌, ◌≤◌, ◌++◌, ◌∷◌, [], not, nat_eq, filter, length, IfSome, OnOk, option_copied};
+ghost use Rattle.std.specs.List.{position_from};
 ghost use Rattle.grid_types.specs.Slots.{slot_eq};
 ghost use Rattle.grid_log.specs.Recalls.{recalled};
-ghost use Rattle.grid_farm.specs.Uses.{draining_after, is_busy_on, uses_after, with_ended, with_slot, without_slot};
+ghost use Rattle.grid_farm.specs.Uses.{comes_before, draining_after, is_busy_on, place_of, uses_after, with_ended, with_slot, without_slot};
 
 use crate::rows::{SlotUse, UseRow};
 use grid_log::{Recall, SessionRow};
@@ -20,12 +21,39 @@ fn drop_slot(uses: &mut Vec<UseRow>, slot: SlotId)
     uses.retain(|row| !is_slot(slot, row));
 }
 
+/// Slots stand by the numbers of their nodes, and those of a node by their own.
+fn comes_before(slot: SlotId, other: SlotId) -> bool
+    ensures { result ≡ comes_before slot other }
+{
+    slot.node < other.node || (slot.node == other.node && slot.index < other.index)
+}
+
+/// The place of the first row whose slot comes behind this one.
+fn first_behind(slot: SlotId, rows: &[UseRow]) -> Option<usize>
+    ensures place { result ≡ position_from (λ row. comes_before slot row.slot) 0 rows.now }
+    ensures within { IfSome result (λ place. place ≤ length rows.now) }
+{
+    rows.iter().position(|row| comes_before(slot, row.slot))
+}
+
+/// How many rows stand before the first whose slot comes behind this one.
+fn place_of(slot: SlotId, rows: &[UseRow]) -> usize
+    ensures place { result ≡ place_of slot rows.now }
+    ensures within { result ≤ length rows.now }
+{
+    match first_behind(slot, rows) {
+        Some(place) => place,
+        None => rows.len(),
+    }
+}
+
 /// The slot is used so from here on.
 fn put_slot(uses: &mut Vec<UseRow>, slot: SlotId, state: SlotUse) -> Result<(), NoMemory>
     ensures { OnOk result (uses.new.items ≡ with_slot slot state uses.old.items) }
 {
     drop_slot(uses, slot);
-    match uses.push(UseRow { slot, state }) {
+    let place = place_of(slot, uses.as_slice());
+    match uses.insert(place, UseRow { slot, state }) {
         Ok(()) => Ok(()),
         Err(_) => Err(NoMemory),
     }

@@ -4,3 +4,4 @@ mod LineLemmas
 mod LogLemmas
 mod AsciiNames
 mod FollowLemmas
+mod JoinLemmas

@@ -1,5 +1,6 @@
 pub mod Past
 pub mod Facts
+pub mod Queue
 pub mod Events
 pub mod Recalls
 pub mod Logs

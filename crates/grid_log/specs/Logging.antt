@@ -12,34 +12,34 @@ use Rattle.journal_reader.specs.Readings.{Goes, HasBegun, HasRead, Opens, Stays}
 use Rattle.grid_log.specs.declared.log.Logging.{Logging}
 use Rattle.grid_log.specs.declared.log.Unlogged.{Unlogged}
 use Rattle.grid_log.specs.declared.log.Unlogged.TheVariants as unlogged
-use Rattle.grid_log.specs.Past.{past_of}
+use Rattle.grid_log.specs.Past.{past_on}
 use Rattle.grid_log.specs.Recalls.{recalled}
-use Rattle.grid_log.specs.Events.{log_of}
-use Rattle.grid_log.specs.Logs.{Input, Output, LogEnds, reading_of}
+use Rattle.grid_log.specs.Events.{log_on}
+use Rattle.grid_log.specs.Logs.{Input, Output, Start, LogEnds, reading_of}
 
 -- the log of a history was written, and neither count of faults fell
-pub record IsWritten (old now : Input) (before after : Output) (logging : Logging) (H : List Entry) : Type 0 where
-  pub past_is : recalled logging.past ≡ past_of H
-  pub written : Gains before.taken after.taken (log_of logging.teller.form H)
-  pub read_faults : old.faults ≤ now.faults
+pub record IsWritten (old : Start) (now : Input) (before after : Output) (logging : Logging) (H : List Entry) : Type 0 where
+  pub past_is : recalled logging.past ≡ past_on old.past H
+  pub written : Gains before.taken after.taken (log_on logging.teller.form logging.reader.config old.past H)
+  pub read_faults : old.input.faults ≤ now.faults
   pub write_faults : before.faults ≤ after.faults
 
 -- the journal of a history was read, and its log was written
-pub record HasLogged (old now : Input) (before after : Output) (logging : Logging) : Type 0 where
+pub record HasLogged (old : Start) (now : Input) (before after : Output) (logging : Logging) : Type 0 where
   pub history : List Entry
-  pub has_read : HasRead (reading_of old) (reading_of now) logging.reader history
+  pub has_read : HasRead (reading_of old.input) (reading_of now) logging.reader history
   pub is_written : IsWritten old now before after logging history
 
 -- the same, and what the journal has next was read
-pub record HasNext (old now : Input) (before after : Output) (logging : Logging) (next : Next) : Type 0 where
+pub record HasNext (old : Start) (now : Input) (before after : Output) (logging : Logging) (next : Next) : Type 0 where
   pub history : List Entry
-  pub goes : Goes (reading_of old) (reading_of now) logging.reader history next
-  pub stays : Stays (reading_of old) (reading_of now) logging.reader history next
-  pub begun : HasBegun (reading_of old) (reading_of now) logging.reader.config history
+  pub goes : Goes (reading_of old.input) (reading_of now) logging.reader history next
+  pub stays : Stays (reading_of old.input) (reading_of now) logging.reader history next
+  pub begun : HasBegun (reading_of old.input) (reading_of now) logging.reader.config history
   pub is_written : IsWritten old now before after logging history
 
 -- the log goes on, or has ended with a status
-abbrev pub Steps : Input → Input → Output → Output → Logging → Option ℕ → Type 0
+abbrev pub Steps : Start → Input → Output → Output → Logging → Option ℕ → Type 0
 Steps old now before after logging None = HasLogged old now before after logging
 Steps old now before after logging (Some status) =
     LogEnds logging.teller.form old now before after status

@@ -110,6 +110,10 @@ past_after past entry = record {
 abbrev pub no_past : Past
 no_past = record { nodes = []; suspects = []; unsettled = []; sessions = []; cleared = None }
 
+-- all that is remembered behind a history, where this was remembered before it
+abbrev pub past_on : Past → List Entry → Past
+past_on past [] = past
+past_on past (entry ∷ history) = past_after (past_on past history) entry
+
 abbrev pub past_of : List Entry → Past
-past_of [] = no_past
-past_of (entry ∷ history) = past_after (past_of history) entry
+past_of history = past_on no_past history

@@ -2,10 +2,11 @@
 ghost use Rattle.std.specs.Prelude.{◌≡◌, ℕ, find, bytes_eq, option_copied, unwrap_or, []};
 ghost use Rattle.std.specs.List.{slice_get};
 ghost use Rattle.grid_types.specs.Capabilities.{text_at};
-ghost use Rattle.grid_log.specs.Events.{browser_in, cause_word, node_words, since, version_in, why_words};
+ghost use Rattle.grid_types.specs.History.{moment_of};
+ghost use Rattle.grid_log.specs.Events.{browser_in, cause_word, failed_words, node_words, since, version_in, why_words};
 ghost use Rattle.grid_log.specs.Past.{slots_in};
 
-use grid_types::{Cap, CapValue, Caps, Choices, EndCause, FailWhy, NodeAddress, SlotGroup};
+use grid_types::{Cap, CapValue, Caps, Change, Choices, EndCause, FailWhy, NodeAddress, SlotGroup};
 use std::str::from_utf8;
 
 /// The member of this name.
@@ -71,6 +72,30 @@ pub(crate) fn address_text(address: &NodeAddress) -> &str
     }
 }
 
+/// The moment of a change, in milliseconds since the hub's clock began; that a slot is freed has none.
+pub fn moment_of(change: &Change) -> Option<u64>
+    ensures { result ≡ moment_of change.now }
+{
+    match change {
+        Change::Registered { at, .. }
+        | Change::Beaten { at, .. }
+        | Change::Draining { at, .. }
+        | Change::Removed { at, .. }
+        | Change::Lapsed { at, .. }
+        | Change::Queued { at, .. }
+        | Change::Reserved { at, .. }
+        | Change::Bound { at, .. }
+        | Change::Failed { at, .. }
+        | Change::TimedOut { at, .. }
+        | Change::Cleared { at, .. }
+        | Change::Taken { at, .. }
+        | Change::Touched { at, .. }
+        | Change::Ended { at, .. }
+        | Change::Suspected { at, .. } => Some(at.0),
+        Change::Freed { .. } => None,
+    }
+}
+
 /// The milliseconds from a moment, where there is one, to a later one.
 pub(crate) fn since(now: u64, at: Option<u64>) -> Option<u64>
     ensures { result ≡ since now at }
@@ -87,12 +112,12 @@ pub(crate) fn why_words(why: &FailWhy) -> &'static str
 {
     match why {
         FailWhy::NodeRefused(_) => "the node refused",
-        FailWhy::Unreachable => "the node was not reached",
+        FailWhy::Unreachable => "the node did not answer",
         FailWhy::NotHttp => "the node's answer is not HTTP",
         FailWhy::BadReply => "the node's answer names no session",
-        FailWhy::Mismatch => "the session has other capabilities",
+        FailWhy::Mismatch => "the node's session has other capabilities than were asked for",
         FailWhy::NodeGone => "the node is gone",
-        FailWhy::Duplicate => "a session of this id runs",
+        FailWhy::Duplicate => "the node's session has the id of one that runs",
         FailWhy::Late => "the request was settled before",
         FailWhy::NoMemory => "the hub found no memory",
     }
@@ -105,6 +130,17 @@ pub(crate) fn node_words(why: &FailWhy) -> Option<&str>
     match why {
         FailWhy::NodeRefused(words) => Some(words.as_str()),
         _ => None,
+    }
+}
+
+/// The words for a failed start: it was the request's last one, or other nodes are tried.
+pub(crate) fn failed_words(last: bool) -> &'static str
+    ensures { result.now ≡ failed_words last }
+{
+    if last {
+        "request refused"
+    } else {
+        "start failed"
     }
 }
 

@@ -11,6 +11,7 @@
 
 mod facts;
 mod form;
+mod laws;
 mod line;
 mod log;
 mod recall;
@@ -19,8 +20,10 @@ mod telling;
 mod top;
 mod words;
 
+pub use facts::moment_of;
 pub use form::Form;
-pub use log::{CUT, NOT_JOURNAL, ending_status, fault_status, log_lines};
+pub use laws::logs_join;
+pub use log::{CUT, NOT_JOURNAL, ending_status, fault_status, log_behind, log_lines};
 pub use recall::Recall;
 pub use rows::{Clearing, NodeRow, SessionRow, WaitRow};
 pub use top::log_main;

@@ -1,20 +1,21 @@
 //! The log of a journal, entry by entry.
-ghost use Rattle.std.specs.Prelude.{◌≡◌, ◌↔◌, ℕ, ◌<◌, ◌≤◌, true, None, Some, OnOk, IfErr};
+ghost use Rattle.std.specs.Prelude.{◌≡◌, ◌↔◌, ℕ, ◌<◌, ◌≤◌, true, None, Some, IfOk, OnOk, IfErr};
 ghost use Rattle.grid_outside.specs.Told.{Gains};
 ghost use Rattle.journal_reader.specs.Readings.{Lessens, left_of};
 ghost use Rattle.journal_reader.specs.declared.reader.Opened.TheVariants as opened;
 ghost use Rattle.grid_log.specs.Facts.{first_line, lines};
-ghost use Rattle.grid_log.specs.Events.{change_events};
-ghost use Rattle.grid_log.specs.Past.{past_after};
+ghost use Rattle.grid_log.specs.Events.{entry_events};
+ghost use Rattle.grid_log.specs.Past.{no_past, past_after};
 ghost use Rattle.grid_log.specs.Recalls.{recalled};
-ghost use Rattle.grid_log.specs.Logs.{Input, Output, HasWaited, LogEnds, MayGoOn, Waits, ending_status, input_of, output_of};
+ghost use Rattle.grid_log.specs.Logs.{Input, Output, Start, HasWaited, LogEnds, MayGoOn, Waits, ending_status, input_of, output_of, start_at};
 ghost use Rattle.grid_log.specs.Logging.{Begins, HasLogged, HasNext, IsEntry, Steps, Stopped, fault_status, unlogged_status};
 
+use crate::facts::moment_of;
 use crate::form::Form;
 use crate::recall::Recall;
-use crate::telling::Teller;
+use crate::telling::{QueueCount, Teller};
 use grid_outside::{Clock, Sink, Source, write_all};
-use grid_types::Entry;
+use grid_types::{Entry, NoMemory};
 use journal_reader::{Ending, JournalReader, Next, Opened, ReadFault};
 use std::alloc::Global;
 
@@ -97,38 +98,58 @@ fn put<K: Sink>(bytes: &[u8], output: &mut K) -> Result<(), Unlogged>
 }
 
 impl Logging {
+    /// The lines of an entry, of which it takes note.
+    fn lines_of(&mut self, entry: &Entry) -> Result<Vec<u8>, NoMemory>
+        ensures bytes { IfOk result (λ bytes. bytes.items ≡ lines self.old.teller.form
+            (entry_events self.old.reader.config (recalled self.old.past) entry.now)) }
+        ensures past { IfOk result (λ bytes. recalled self.new.past
+            ≡ past_after (recalled self.old.past) entry.now) }
+        ensures reader { self.new.reader ≡ self.old.reader }
+        ensures teller { self.new.teller ≡ self.old.teller }
+    {
+        let mut bytes = self.teller.lines_of(&self.past, entry)?;
+        let before = self.past.unsettled().len() as u64;
+        self.past.note(entry)?;
+        let count = QueueCount {
+            limit: u64::from(self.reader.config().queue_requests),
+            before,
+            requests: self.past.unsettled().len() as u64,
+        };
+        let at = moment_of(&entry.change).unwrap_or(0);
+        let room = self.teller.room_of(count, at)?;
+        bytes.extend_from_slice(room.as_slice())?;
+        Ok(bytes)
+    }
+
     /// Writes the lines of an entry, and takes note of it.
     fn tell<K: Sink>(&mut self, entry: &Entry, output: &mut K) -> Result<(), Unlogged>
         ensures past { OnOk result (recalled self.new.past
             ≡ past_after (recalled self.old.past) entry.now) }
         ensures ok { OnOk result (Gains (K.view output.old).taken (K.view output.new).taken
-            (lines self.old.teller.form (change_events (recalled self.old.past)
-            entry.now.caller entry.now.change))) }
+            (lines self.old.teller.form
+            (entry_events self.old.reader.config (recalled self.old.past) entry.now))) }
         ensures stopped { IfErr result (λ why. Stopped
             (output_of (K.view output.old).taken (K.view output.old).faults)
             (output_of (K.view output.new).taken (K.view output.new).faults)
-            (lines self.old.teller.form (change_events (recalled self.old.past)
-            entry.now.caller entry.now.change)) why) }
+            (lines self.old.teller.form
+            (entry_events self.old.reader.config (recalled self.old.past) entry.now)) why) }
         ensures faults { (K.view output.old).faults ≤ (K.view output.new).faults }
         ensures reader { self.new.reader ≡ self.old.reader }
         ensures teller { self.new.teller ≡ self.old.teller }
     {
-        let Ok(bytes) = self.teller.lines_of(&self.past, entry) else {
-            return Err(Unlogged::Memory);
-        };
-        if self.past.note(entry).is_err() {
-            return Err(Unlogged::Memory);
+        match self.lines_of(entry) {
+            Ok(bytes) => put(bytes.as_slice(), output),
+            Err(_) => Err(Unlogged::Memory),
         }
-        put(bytes.as_slice(), output)
     }
 
     /// Does what the journal's next calls for. The status where the log ends.
     fn follow<K: Sink>(&mut self, next: Next, output: &mut K) -> Option<u8>
-        ensures goes { (old now : Input) (before : Output) →
+        ensures goes { (old : Start) (now : Input) (before : Output) →
             HasNext old now before (output_of (K.view output.old).taken (K.view output.old).faults) self.old
             next → Steps old now before (output_of (K.view output.new).taken (K.view output.new).faults)
             self.new result }
-        ensures stays { (old now : Input) (before : Output) (status : ℕ) →
+        ensures stays { (old : Start) (now : Input) (before : Output) (status : ℕ) →
             HasNext old now before (output_of (K.view output.old).taken (K.view output.old).faults) self.old
             next → result ≡ Some status → MayGoOn status → HasLogged old now before
             (output_of (K.view output.new).taken (K.view output.new).faults) self.new }
@@ -147,12 +168,12 @@ impl Logging {
 
     /// Reads an entry and writes its lines. The status where the log ends.
     fn step<S: Source, K: Sink>(&mut self, input: &mut S, output: &mut K) -> Option<u8>
-        ensures goes { (old : Input) (before : Output) →
+        ensures goes { (old : Start) (before : Output) →
             HasLogged old (input_of (S.view input.old).given (S.view input.old).ends (S.view input.old).faults)
             before (output_of (K.view output.old).taken (K.view output.old).faults) self.old →
             Steps old (input_of (S.view input.new).given (S.view input.new).ends (S.view input.new).faults)
             before (output_of (K.view output.new).taken (K.view output.new).faults) self.new result }
-        ensures stays { (old : Input) (before : Output) (status : ℕ) →
+        ensures stays { (old : Start) (before : Output) (status : ℕ) →
             HasLogged old (input_of (S.view input.old).given (S.view input.old).ends (S.view input.old).faults)
             before (output_of (K.view output.old).taken (K.view output.old).faults) self.old →
             result ≡ Some status → MayGoOn status → HasLogged old
@@ -170,13 +191,13 @@ impl Logging {
 
     /// Goes on to the end of what is there.
     fn run<S: Source, K: Sink>(&mut self, input: &mut S, output: &mut K) -> u8
-        ensures goes { (old : Input) (before : Output) →
+        ensures goes { (old : Start) (before : Output) →
             HasLogged old (input_of (S.view input.old).given (S.view input.old).ends (S.view input.old).faults)
             before (output_of (K.view output.old).taken (K.view output.old).faults) self.old →
             LogEnds self.old.teller.form old
             (input_of (S.view input.new).given (S.view input.new).ends (S.view input.new).faults)
             before (output_of (K.view output.new).taken (K.view output.new).faults) result }
-        ensures stays { (old : Input) (before : Output) →
+        ensures stays { (old : Start) (before : Output) →
             HasLogged old (input_of (S.view input.old).given (S.view input.old).ends (S.view input.old).faults)
             before (output_of (K.view output.old).taken (K.view output.old).faults) self.old →
             MayGoOn result → HasLogged old
@@ -199,16 +220,16 @@ impl Logging {
         output: &mut K,
         clock: &mut C,
     ) -> u8
-        ensures goes { (old : Input) (before : Output) →
+        ensures goes { (old : Start) (before : Output) →
             HasLogged old (input_of (S.view input.old).given (S.view input.old).ends (S.view input.old).faults)
             before (output_of (K.view output.old).taken (K.view output.old).faults) self.old →
             LogEnds self.old.teller.form old
             (input_of (S.view input.new).given (S.view input.new).ends (S.view input.new).faults)
             before (output_of (K.view output.new).taken (K.view output.new).faults) result }
-        ensures waits { (old : Input) (before : Output) →
+        ensures waits { (old : Start) (before : Output) →
             HasLogged old (input_of (S.view input.old).given (S.view input.old).ends (S.view input.old).faults)
             before (output_of (K.view output.old).taken (K.view output.old).faults) self.old →
-            MayGoOn result → HasWaited pauses old
+            MayGoOn result → HasWaited pauses old.input
             (input_of (S.view input.new).given (S.view input.new).ends (S.view input.new).faults)
             (C.view clock.old) (C.view clock.new) }
     {
@@ -238,6 +259,7 @@ fn first_line(form: Form) -> &'static [u8]
 fn log_journal<S: Source, K: Sink, C: Clock>(
     alloc: Global,
     form: Form,
+    past: Recall,
     pauses: u64,
     reader: JournalReader,
     input: &mut S,
@@ -247,7 +269,7 @@ fn log_journal<S: Source, K: Sink, C: Clock>(
     ensures log { (old : Input) → Begins old
         (input_of (S.view input.old).given (S.view input.old).ends (S.view input.old).faults)
         (opened.Journal reader) →
-        LogEnds form old (input_of (S.view input.new).given (S.view input.new).ends (S.view input.new).faults)
+        LogEnds form (start_at (recalled past) old) (input_of (S.view input.new).given (S.view input.new).ends (S.view input.new).faults)
         (output_of (K.view output.old).taken (K.view output.old).faults)
         (output_of (K.view output.new).taken (K.view output.new).faults) result }
     ensures waits { (old : Input) → Begins old
@@ -261,7 +283,7 @@ fn log_journal<S: Source, K: Sink, C: Clock>(
     }
     let mut logging = Logging {
         reader,
-        past: Recall::new(alloc),
+        past,
         teller: Teller { form, alloc },
     };
     logging.follow_on(pauses, input, output, clock)
@@ -271,6 +293,7 @@ fn log_journal<S: Source, K: Sink, C: Clock>(
 fn log_opened<S: Source, K: Sink, C: Clock>(
     alloc: Global,
     form: Form,
+    past: Recall,
     pauses: u64,
     opened: Opened,
     input: &mut S,
@@ -279,7 +302,7 @@ fn log_opened<S: Source, K: Sink, C: Clock>(
 ) -> u8
     ensures log { (old : Input) → Begins old
         (input_of (S.view input.old).given (S.view input.old).ends (S.view input.old).faults) opened →
-        LogEnds form old (input_of (S.view input.new).given (S.view input.new).ends (S.view input.new).faults)
+        LogEnds form (start_at (recalled past) old) (input_of (S.view input.new).given (S.view input.new).ends (S.view input.new).faults)
         (output_of (K.view output.old).taken (K.view output.old).faults)
         (output_of (K.view output.new).taken (K.view output.new).faults) result }
     ensures waits { (old : Input) → Begins old
@@ -288,9 +311,38 @@ fn log_opened<S: Source, K: Sink, C: Clock>(
         (C.view clock.old) (C.view clock.new) result }
 {
     match opened {
-        Opened::Journal(reader) => log_journal(alloc, form, pauses, reader, input, output, clock),
+        Opened::Journal(reader) => {
+            log_journal(alloc, form, past, pauses, reader, input, output, clock)
+        },
         Opened::Cut => CUT,
         Opened::NotJournal => NOT_JOURNAL,
+    }
+}
+
+/// Goes on with the log of a journal of which so much is past: reads what comes behind it, which begins with the journal's head,
+/// and writes the first line and the lines of these entries alone. The status and the pauses are those of [`log_lines`].
+pub fn log_behind<S: Source, K: Sink, C: Clock>(
+    alloc: Global,
+    form: Form,
+    past: Recall,
+    pauses: u64,
+    input: &mut S,
+    output: &mut K,
+    clock: &mut C,
+) -> u8
+    ensures log { LogEnds form (start_at (recalled past)
+        (input_of (S.view input.old).given (S.view input.old).ends (S.view input.old).faults))
+        (input_of (S.view input.new).given (S.view input.new).ends (S.view input.new).faults)
+        (output_of (K.view output.old).taken (K.view output.old).faults)
+        (output_of (K.view output.new).taken (K.view output.new).faults) result }
+    ensures waits { Waits pauses
+        (input_of (S.view input.old).given (S.view input.old).ends (S.view input.old).faults)
+        (input_of (S.view input.new).given (S.view input.new).ends (S.view input.new).faults)
+        (C.view clock.old) (C.view clock.new) result }
+{
+    match JournalReader::open(alloc, input) {
+        Ok(opened) => log_opened(alloc, form, past, pauses, opened, input, output, clock),
+        Err(fault) => fault_status(fault),
     }
 }
 
@@ -309,8 +361,8 @@ pub fn log_lines<S: Source, K: Sink, C: Clock>(
     output: &mut K,
     clock: &mut C,
 ) -> u8
-    ensures log { LogEnds form
-        (input_of (S.view input.old).given (S.view input.old).ends (S.view input.old).faults)
+    ensures log { LogEnds form (start_at no_past
+        (input_of (S.view input.old).given (S.view input.old).ends (S.view input.old).faults))
         (input_of (S.view input.new).given (S.view input.new).ends (S.view input.new).faults)
         (output_of (K.view output.old).taken (K.view output.old).faults)
         (output_of (K.view output.new).taken (K.view output.new).faults) result }
@@ -319,8 +371,13 @@ pub fn log_lines<S: Source, K: Sink, C: Clock>(
         (input_of (S.view input.new).given (S.view input.new).ends (S.view input.new).faults)
         (C.view clock.old) (C.view clock.new) result }
 {
-    match JournalReader::open(alloc, input) {
-        Ok(opened) => log_opened(alloc, form, pauses, opened, input, output, clock),
-        Err(fault) => fault_status(fault),
-    }
+    log_behind(
+        alloc,
+        form,
+        Recall::new(alloc),
+        pauses,
+        input,
+        output,
+        clock,
+    )
 }

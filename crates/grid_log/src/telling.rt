@@ -1,11 +1,12 @@
 //! The lines of one entry.
 ghost use Rattle.std.specs.Prelude.{◌≡◌, ◌∷◌, [], IfOk, OnOk, option_copied};
-ghost use Rattle.grid_log.specs.Events.{beaten_events, change_events, created_event, ended_event, ended_events, ends_on, failed_events, lapsed_events, node_event, queued_event, refused_event, registered_event, request_event, taken_events};
+ghost use Rattle.grid_log.specs.Events.{beaten_events, change_events, created_event, ended_event, ended_events, ends_on, failed_event, failed_words, lapsed_events, node_event, queued_event, registered_event, request_event, taken_events};
 ghost use Rattle.grid_log.specs.Facts.{line, lines, with_lines};
 ghost use Rattle.grid_log.specs.Past.{queued_in};
+ghost use Rattle.grid_log.specs.Queue.{queue_event, queue_events, queue_told};
 ghost use Rattle.grid_log.specs.Recalls.{recalled};
 
-use crate::facts::{address_text, cause_word, first_browser, since, slots_in};
+use crate::facts::{address_text, cause_word, failed_words, first_browser, since, slots_in};
 use crate::form::Form;
 use crate::line::Line;
 use crate::recall::Recall;
@@ -16,6 +17,17 @@ use grid_types::{
 };
 use std::alloc::Global;
 
+/// What it means for a node's sessions that it is suspect, back, draining, removed, and that it has lapsed.
+const SUSPECT: &str = "no sign of life for long: it gets no new sessions until it gives one";
+
+const BACK: &str = "it gave a sign of life";
+
+const DRAINING: &str = "it gets no new sessions";
+
+const REMOVED: &str = "sessions that run on it go on";
+
+const LAPSED: &str = "no sign of life for too long: its sessions are over";
+
 /// A session that was created.
 #[derive(Clone, Copy)]
 struct Made<'a> {
@@ -24,6 +36,28 @@ struct Made<'a> {
     session: &'a SessionId,
     caps: &'a Caps,
     at: Moment,
+}
+
+/// A start that failed.
+#[derive(Clone, Copy)]
+struct FailedStart<'a> {
+    request: ReqNo,
+    slot: SlotId,
+    why: &'a FailWhy,
+    /// No other node is tried.
+    last: bool,
+    /// When the request was queued, where that is known.
+    queued: Option<u64>,
+    at: Moment,
+}
+
+/// How many requests were not settled before an entry, and how many are behind it.
+#[derive(Clone, Copy)]
+pub(crate) struct QueueCount {
+    /// So many the queue takes.
+    pub(crate) limit: u64,
+    pub(crate) before: u64,
+    pub(crate) requests: u64,
 }
 
 /// A form, and the allocator for lines of it.
@@ -54,16 +88,18 @@ impl Teller {
     fn of_node(
         &self,
         what: &str,
+        meaning: &str,
         node: NodeNo,
         name: Option<&str>,
         at: Moment,
     ) -> Result<Vec<u8>, NoMemory>
-        ensures { IfOk result (λ bytes. bytes.items
-            ≡ lines self.now.form (node_event what.now node (option_copied name.entry) at.0 ∷ [])) }
+        ensures { IfOk result (λ bytes. bytes.items ≡ lines self.now.form
+            (node_event what.now meaning.now node (option_copied name.entry) at.0 ∷ [])) }
     {
         let mut line = Line::begin(self.alloc, self.form, at.0, what)?;
         line.number("node", u64::from(node))?;
         line.name_if("name", name)?;
+        line.name("meaning", meaning)?;
         line.end()
     }
 
@@ -100,21 +136,17 @@ impl Teller {
         line.end()
     }
 
-    fn refused(
-        &self,
-        request: ReqNo,
-        slot: SlotId,
-        why: &FailWhy,
-        queued: Option<u64>,
-        at: Moment,
-    ) -> Result<Vec<u8>, NoMemory>
-        ensures { IfOk result (λ bytes. bytes.items
-            ≡ lines self.now.form (refused_event request slot why.now queued at.0 ∷ [])) }
+    fn failed(&self, start: &FailedStart<'_>, name: Option<&str>) -> Result<Vec<u8>, NoMemory>
+        ensures { IfOk result (λ bytes. bytes.items ≡ lines self.now.form
+            (failed_event (failed_words start.now.last) start.now.request start.now.slot
+            (option_copied name.entry) start.now.why.now start.now.queued start.now.at.0 ∷ [])) }
     {
-        let mut line = Line::begin(self.alloc, self.form, at.0, "request refused")?;
-        line.request_at(request, slot)?;
-        line.why(why)?;
-        line.number_if("waited_ms", since(at.0, queued))?;
+        let what = failed_words(start.last);
+        let mut line = Line::begin(self.alloc, self.form, start.at.0, what)?;
+        line.request_at(start.request, start.slot)?;
+        line.name_if("name", name)?;
+        line.why(start.why)?;
+        line.number_if("waited_ms", since(start.at.0, start.queued))?;
         line.end()
     }
 
@@ -203,30 +235,9 @@ impl Teller {
         ensures { IfOk result (λ bytes. bytes.items
             ≡ lines self.now.form (lapsed_events (recalled past.now) node at.0)) }
     {
-        let mut lines = self.of_node("node lapsed", node, past.name_of(node), at)?;
+        let mut lines = self.of_node("node lapsed", LAPSED, node, past.name_of(node), at)?;
         self.ends_on(node, at, past.sessions(), &mut lines)?;
         Ok(lines)
-    }
-
-    /// The line of a start that failed, where the request is not tried again.
-    fn failed(
-        &self,
-        past: &Recall,
-        request: ReqNo,
-        slot: SlotId,
-        why: &FailWhy,
-        last: bool,
-        at: Moment,
-    ) -> Result<Vec<u8>, NoMemory>
-        ensures { IfOk result (λ bytes. bytes.items ≡ lines self.now.form
-            (failed_events request slot why.now
-            (queued_in (recalled past.now).unsettled request) at.0 last)) }
-    {
-        if last {
-            self.refused(request, slot, why, past.queued(request), at)
-        } else {
-            Ok(Vec::new(self.alloc))
-        }
     }
 
     /// The line of a request whose outcome was taken, where it was withdrawn.
@@ -253,10 +264,56 @@ impl Teller {
             ≡ lines self.now.form (beaten_events (recalled past.now) node at.0)) }
     {
         if past.is_suspect(node) {
-            self.of_node("node back", node, past.name_of(node), at)
+            self.of_node("node back", BACK, node, past.name_of(node), at)
         } else {
             Ok(Vec::new(self.alloc))
         }
+    }
+
+    fn of_queue(
+        &self,
+        what: &str,
+        meaning: &str,
+        count: QueueCount,
+        at: u64,
+    ) -> Result<Vec<u8>, NoMemory>
+        ensures { IfOk result (λ bytes. bytes.items ≡ line self.now.form
+            (queue_event what.now meaning.now count.requests count.limit at)) }
+    {
+        let mut line = Line::begin(self.alloc, self.form, at, what)?;
+        line.number("requests", count.requests)?;
+        line.number("limit", count.limit)?;
+        line.name("meaning", meaning)?;
+        line.end()
+    }
+
+    /// The line of a queue that was full or not, and is now or not.
+    fn room(&self, was: bool, is: bool, count: QueueCount, at: u64) -> Result<Vec<u8>, NoMemory>
+        ensures { IfOk result (λ bytes. bytes.items ≡ lines self.now.form
+            (queue_told was is count.requests count.limit at)) }
+    {
+        match (was, is) {
+            (false, true) => {
+                self.of_queue("queue full", "further requests are refused", count, at)
+            }
+            (true, false) => {
+                self.of_queue("queue has room", "requests are taken again", count, at)
+            }
+            _ => Ok(Vec::new(self.alloc)),
+        }
+    }
+
+    /// The line of a queue that has become full, or has room again.
+    pub(crate) fn room_of(&self, count: QueueCount, at: u64) -> Result<Vec<u8>, NoMemory>
+        ensures { IfOk result (λ bytes. bytes.items ≡ lines self.now.form
+            (queue_events count.limit count.before count.requests at)) }
+    {
+        self.room(
+            count.limit <= count.before,
+            count.limit <= count.requests,
+            count,
+            at,
+        )
     }
 
     /// The lines of an entry, where so much is past.
@@ -272,13 +329,13 @@ impl Teller {
             } => self.registered(*node, registration, *at),
             Change::Beaten { node, at } => self.beaten(past, *node, *at),
             Change::Suspected { node, at } => {
-                self.of_node("node suspect", *node, past.name_of(*node), *at)
+                self.of_node("node suspect", SUSPECT, *node, past.name_of(*node), *at)
             }
             Change::Draining { node, at } => {
-                self.of_node("node draining", *node, past.name_of(*node), *at)
+                self.of_node("node draining", DRAINING, *node, past.name_of(*node), *at)
             }
             Change::Removed { node, at } => {
-                self.of_node("node removed", *node, past.name_of(*node), *at)
+                self.of_node("node removed", REMOVED, *node, past.name_of(*node), *at)
             }
             Change::Lapsed { node, at } => self.lapsed(past, *node, *at),
             Change::Queued {
@@ -294,7 +351,17 @@ impl Teller {
                 last,
                 at,
                 ..
-            } => self.failed(past, *request, *slot, why, *last, *at),
+            } => self.failed(
+                &FailedStart {
+                    request: *request,
+                    slot: *slot,
+                    why,
+                    last: *last,
+                    queued: past.queued(*request),
+                    at: *at,
+                },
+                past.name_of(slot.node),
+            ),
             Change::TimedOut { request, at } => {
                 self.of_request("request timed out", *request, past.queued(*request), *at)
             }

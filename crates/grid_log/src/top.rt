@@ -2,7 +2,8 @@
 ghost use Rattle.std.specs.Prelude.{◌≡◌, ◌↔◌, None, Some};
 ghost use Rattle.grid_outside.specs.Counts.{Rose};
 ghost use Rattle.grid_log.specs.declared.words.AskedLog.{AskedLog};
-ghost use Rattle.grid_log.specs.Logs.{LogEnds, Waits, input_of, output_of};
+ghost use Rattle.grid_log.specs.Logs.{LogEnds, Waits, input_of, output_of, start_at};
+ghost use Rattle.grid_log.specs.Past.{no_past};
 ghost use Rattle.grid_log.specs.Words.{asked_by};
 
 use crate::log::log_lines;
@@ -31,7 +32,8 @@ pub fn log_main<S: Source, K: Sink, C: Clock>(
     ensures words { (result ≡ 8) ↔ (asked_by words.now ≡ None) }
     ensures untouched { result ≡ 8 → (input.new ≡ input.old) × (output.new ≡ output.old) }
     ensures logged { (asked : AskedLog) → asked_by words.now ≡ Some asked → LogEnds asked.form
-        (input_of (S.view input.old).given (S.view input.old).ends (S.view input.old).faults)
+        (start_at no_past
+        (input_of (S.view input.old).given (S.view input.old).ends (S.view input.old).faults))
         (input_of (S.view input.new).given (S.view input.new).ends (S.view input.new).faults)
         (output_of (K.view output.old).taken (K.view output.old).faults)
         (output_of (K.view output.new).taken (K.view output.new).faults) result }

@@ -2,7 +2,8 @@
 ghost use Rattle.std.specs.Prelude.{◌≡◌, ◌↔◌, None, Some};
 ghost use Rattle.grid_outside.specs.Counts.{Rose};
 ghost use Rattle.grid_log.specs.declared.words.AskedLog.{AskedLog};
-ghost use Rattle.grid_log.specs.Logs.{LogEnds, Waits, input_of, output_of};
+ghost use Rattle.grid_log.specs.Logs.{LogEnds, Waits, input_of, output_of, start_at};
+ghost use Rattle.grid_log.specs.Past.{no_past};
 ghost use Rattle.grid_log.specs.Words.{asked_by};
 ghost use Rattle.grid_report.specs.declared.words.Report.{Report};
 ghost use Rattle.grid_report.specs.Reports.{ReportEnds};
@@ -36,8 +37,8 @@ pub fn report_main<S: Source, K: Sink, C: Clock>(
         (output_of (K.view output.old).taken (K.view output.old).faults)
         (output_of (K.view output.new).taken (K.view output.new).faults) result }
     ensures logged { (asked : AskedLog) → report_of words.now ≡ None → asked_by words.now ≡ Some asked →
-        LogEnds asked.form
-        (input_of (S.view input.old).given (S.view input.old).ends (S.view input.old).faults)
+        LogEnds asked.form (start_at no_past
+        (input_of (S.view input.old).given (S.view input.old).ends (S.view input.old).faults))
         (input_of (S.view input.new).given (S.view input.new).ends (S.view input.new).faults)
         (output_of (K.view output.old).taken (K.view output.old).faults)
         (output_of (K.view output.new).taken (K.view output.new).faults) result }

@@ -1,10 +1,12 @@
 //! A hub's program beside the thread that tells what the hub enters.
 ghost use Rattle.std.specs.Thread.{IsSync};
 
-use crate::sights::Sights;
+use crate::beginning::Beginning;
+use crate::sights::{Sights, wait_a_while};
 use crate::telling::{StandardError, tell_all};
-use crossbeam_channel::{Receiver, Sender, bounded};
+use crossbeam_channel::{Receiver, Sender, TryRecvError, bounded};
 use grid_journal::write_head;
+use grid_log::Recall;
 use grid_outside::Clock;
 use grid_types::{HubConfig, NoMemory};
 use journal_keeper::{Sight, Watch};
@@ -22,6 +24,8 @@ const NO_MEMORY: u8 = 5;
 pub struct HubSide {
     /// By how much the hub's clocks are to be ahead of the machine's.
     pub(crate) ahead: Arc<AtomicU64>,
+    /// Where the hub says what it begins with, once.
+    pub(crate) begins: Sender<Beginning>,
     /// Where the hub tells what it keeps.
     pub(crate) watch: Watch,
     /// Where the hub's file goes, to make stay on the disk what was appended.
@@ -41,14 +45,14 @@ impl HubSide {
 /// What the thread takes of it.
 #[derive(Drop)]
 struct TellingSide {
+    begun: Receiver<Beginning>,
     coming: Receiver<Sight>,
     files: Receiver<File>,
-    head: Vec<u8>,
 }
 
-/// The head of a journal, for a log that begins anywhere.
-fn head(alloc: Global) -> Result<Vec<u8>, NoMemory> {
-    let head = write_head(alloc, &HubConfig::default())?;
+/// The head of a journal of a hub that was set up so.
+fn head(alloc: Global, config: &HubConfig) -> Result<Vec<u8>, NoMemory> {
+    let head = write_head(alloc, config)?;
     let mut bytes = Vec::new(alloc);
     match bytes.extend_from_slice(head.as_bytes()) {
         Ok(()) => Ok(bytes),
@@ -58,8 +62,10 @@ fn head(alloc: Global) -> Result<Vec<u8>, NoMemory> {
 
 /// Both sides.
 fn sides(alloc: Global) -> Result<(HubSide, TellingSide), NoMemory> {
-    let head = head(alloc)?;
     let (watch, coming) = Watch::new(alloc)?;
+    let Ok((begins, begun)) = bounded(alloc, 1) else {
+        return Err(NoMemory);
+    };
     let Ok((syncs, files)) = bounded(alloc, 1) else {
         return Err(NoMemory);
     };
@@ -68,15 +74,28 @@ fn sides(alloc: Global) -> Result<(HubSide, TellingSide), NoMemory> {
     };
     let hub_side = HubSide {
         ahead,
+        begins,
         watch,
         syncs,
     };
     let telling = TellingSide {
+        begun,
         coming,
         files,
-        head,
     };
     Ok((hub_side, telling))
+}
+
+/// What the hub begins with, once it says so. None: it is done before.
+fn beginning<R: Wait>(rt: &R, begun: &Receiver<Beginning>, done: &AtomicBool) -> Option<Beginning> {
+    for _ in rt.forever() {
+        match begun.try_recv(rt) {
+            Ok(beginning) => return Some(beginning),
+            Err(TryRecvError::Empty) if !done.load(Ordering::SeqCst) => wait_a_while(rt),
+            Err(_) => return None,
+        }
+    }
+    None
 }
 
 /// Tells what comes until the hub is done.
@@ -89,13 +108,25 @@ fn tell_side<R: Wait + Eprint, C: Clock + Drop>(
     done: &AtomicBool,
 ) {
     let TellingSide {
+        begun,
         coming,
         files,
-        head,
     } = side;
+    let Some(Beginning { config, before }) = beginning(rt, &begun, done) else {
+        return;
+    };
+    // Where there is no memory for a head, nothing is told.
+    let head = match head(alloc, &config) {
+        Ok(head) => head,
+        Err(_) => Vec::new(alloc),
+    };
+    let past = match before {
+        Some(front) => front.recalled(alloc),
+        None => Recall::new(alloc),
+    };
     let mut sights = Sights::new(rt, alloc, program, coming, files, done, head);
     let mut output = StandardError::new(rt);
-    tell_all(alloc, &mut sights, &mut output, &mut clock);
+    tell_all(alloc, past, &mut sights, &mut output, &mut clock);
 }
 
 /// Does what `serve` does beside a thread that tells on standard error what the hub enters, and answers its status; 5 where there is

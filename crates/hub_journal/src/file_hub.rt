@@ -8,6 +8,7 @@ ghost use Rattle.hub_journal.specs.ReadJournals.{IsRead};
 
 use crate::aside::{opened, put_aside, write_anew};
 use crate::asking::Asking;
+use crate::beginning::{Beginning, Front};
 use crate::beside::HubSide;
 use crate::input::FileInput;
 use crate::options::other_option;
@@ -40,6 +41,8 @@ pub struct FileHub<F: Files<File = File> + Drop, N: NodeLink + Drop, C: Clock + 
     clock: C,
     /// By how much the hub's clocks are to be ahead of it, once that is known.
     ahead: Arc<AtomicU64>,
+    /// Where a thread is told what the hub begins with.
+    begins: Sender<Beginning>,
     /// Where a thread is told what is kept.
     watch: Option<Watch>,
     /// Where a thread is handed the file, to make stay on the disk what was appended.
@@ -62,6 +65,7 @@ impl<F: Files<File = File> + Drop, N: NodeLink + Drop, C: Clock + Drop> FileHub<
     pub fn new(alloc: Global, files: F, nodes: N, clock: C, side: HubSide) -> Self {
         let HubSide {
             ahead,
+            begins,
             watch,
             syncs,
         } = side;
@@ -70,6 +74,7 @@ impl<F: Files<File = File> + Drop, N: NodeLink + Drop, C: Clock + Drop> FileHub<
             asking: Asking::new(alloc, nodes),
             clock,
             ahead,
+            begins,
             watch: Some(watch),
             syncs,
             path: None,
@@ -96,6 +101,26 @@ impl<F: Files<File = File> + Drop, N: NodeLink + Drop, C: Clock + Drop> FileHub<
     {
         self.trouble = Some(trouble);
         Err(why)
+    }
+
+    /// So many bytes of its file, from the beginning.
+    fn before(&self, whole: u64) -> Option<Front> {
+        if whole == 0 {
+            return None;
+        }
+        let bytes = usize::try_from(whole).ok()?;
+        let file = opened(&self.files, self.path()).ok()?;
+        Some(Front::new(file, bytes))
+    }
+
+    /// Says what the hub begins with: how it is set up, and so many bytes of its file.
+    fn say_begins<R: Wait>(&self, rt: &R, config: HubConfig, whole: u64) {
+        let beginning = Beginning {
+            config,
+            before: self.before(whole),
+        };
+        // There is room for one, and one alone is sent.
+        let _ = self.begins.try_send(rt, beginning);
     }
 
     /// What keeps the journal.
@@ -154,8 +179,10 @@ impl<F: Files<File = File> + Drop, N: NodeLink + Drop, C: Clock + Drop> FileHub<
             ledger,
             listener,
             most_caller,
+            whole,
             ..
         } = journal;
+        self.say_begins(rt, ledger.config(), whole);
         let at = self.moment(ledger.clock());
         let keeper = self.keeper(rt, kept)?;
         let keeping = self.keeping(Some(keeper));
@@ -423,6 +450,7 @@ impl<F: Files<File = File> + Drop, N: NodeLink + Drop, C: Clock + Drop> Begins
         passes: u32,
     ) -> Result<(SharedHub, Pass), Unbegun> {
         let Some(path) = &journal.file else {
+            self.say_begins(rt, config, 0);
             let keeping = self.keeping(None);
             return match begin(rt, alloc, config, keeping, 0, passes) {
                 Ok(begun) => Ok(begun),

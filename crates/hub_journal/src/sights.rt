@@ -46,6 +46,11 @@ fn copy_front(into: &mut [u8], from: &[u8]) -> usize
     count
 }
 
+/// Waits for as long as a pause is where there is nothing to tell.
+pub(crate) fn wait_a_while<R: Wait>(rt: &R) {
+    AtomicU64::new(0).park_timeout(rt, 0, Duration::from_millis(PAUSE_MS));
+}
+
 impl<'a, R: Wait + Eprint> Sights<'a, R> {
     /// The bytes of the head, once something comes, and then of what comes. `files` is where the hub's file comes, if it has one.
     pub fn new(
@@ -137,7 +142,7 @@ impl<'a, R: Wait + Eprint> Sights<'a, R> {
             self.pauses = 0;
             self.sync();
         }
-        AtomicU64::new(0).park_timeout(self.runtime, 0, Duration::from_millis(PAUSE_MS));
+        wait_a_while(self.runtime);
     }
 
     /// Hands out bytes that have come.

@@ -2,7 +2,7 @@
 ghost use Rattle.std.specs.Prelude.{◌≡◌, ℕ, ◌≤◌, None};
 
 use crate::sights::Sights;
-use grid_log::{Form, log_lines};
+use grid_log::{Form, Recall, log_behind};
 use grid_outside::{Clock, Failed, Sink};
 use std::alloc::Global;
 use std::str::from_utf8;
@@ -39,13 +39,14 @@ impl<R: Eprint> Sink for StandardError<'_, R> {
     }
 }
 
-/// Tells what a hub enters in the lines of a log, until the hub is done. Where a line can't be written nothing more is told.
+/// Tells what a hub enters behind what is past, in the lines of a log, until the hub is done. Where a line can't be written nothing more is told.
 pub fn tell_all<R: Wait + Eprint, C: Clock>(
     alloc: Global,
+    past: Recall,
     sights: &mut Sights<'_, R>,
     output: &mut StandardError<'_, R>,
     clock: &mut C,
 ) {
-    let _ = log_lines(alloc, Form::Text, 0, sights, output, clock);
+    let _ = log_behind(alloc, Form::Text, past, 0, sights, output, clock);
     sights.keep_on();
 }

@@ -15,8 +15,9 @@ const ONE_ENTRY_BYTES: usize = 25;
 /// Where the number of an entry's kind stands in its bytes.
 const KIND_AT: usize = 8;
 
-/// The kinds of which nobody wants to be told each time: a node was heard, a session was used.
-const DULL_KINDS: [u8; 2] = [2, 13];
+/// The kind of which nobody wants to be told each time: a session was used. That a node was heard is told, since it may have been
+/// suspect.
+const DULL_KIND: u8 = 13;
 
 /// What one who watches is told.
 #[derive(Debug, Drop)]
@@ -43,7 +44,7 @@ pub struct Watch {
 /// Whether nobody wants to be told of the entries.
 fn is_dull(piece: &[u8]) -> bool {
     match piece.get(KIND_AT) {
-        Some(kind) => piece.len() <= ONE_ENTRY_BYTES && DULL_KINDS.contains(kind),
+        Some(kind) => piece.len() <= ONE_ENTRY_BYTES && *kind == DULL_KIND,
         None => true,
     }
 }

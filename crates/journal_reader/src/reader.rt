@@ -237,6 +237,13 @@ impl JournalReader {
         self.feed.go_on();
     }
 
+    /// What its hub was set up with.
+    pub fn config(&self) -> HubConfig
+        ensures { result ≡ self.now.config }
+    {
+        self.config
+    }
+
     /// The next entry, or how the journal ends. Whatever the history was whose journal was read so far, it has the entry now;
     /// and the input gave that journal, and perhaps more, also where an error is answered. Where the journal ended, it has been
     /// read as before.

@@ -1,12 +1,12 @@
 //! A journal that grows while it is read.
 ghost use Rattle.std.specs.Prelude.{◌≡◌, None};
 
-use crate::changes::{beaten, suspected};
+use crate::changes::{beaten, bound, browser, ended, suspected};
 use crate::logs::{head, put};
-use grid_log::{Form, log_lines};
+use grid_log::{Form, Recall, log_behind, log_lines};
 use grid_outside::{Failed, MemClock, MemSink, MemSource, Source};
 use grid_report::report_main;
-use grid_types::{Bytes, Entry, Moment, NoMemory, Text};
+use grid_types::{Bytes, EndCause, Entry, Moment, NoMemory, Text};
 use std::alloc::Global;
 use std::test::Fail;
 
@@ -65,10 +65,10 @@ fn grown(alloc: Global, count: usize, fails: &[u64]) -> Result<Growing, Fail> {
 
 /// What both entries tell behind the first line, and the first alone.
 const BOTH: &[u8] =
-    b"# moments are milliseconds since the hub's clock began\n5 node suspect node=1\n9 node back node=1\n";
+    b"# moments are milliseconds since the hub's clock began\n5 node suspect node=1 meaning=\"no sign of life for long: it gets no new sessions until it gives one\"\n9 node back node=1 meaning=\"it gave a sign of life\"\n";
 
 const ONE: &[u8] =
-    b"# moments are milliseconds since the hub's clock began\n5 node suspect node=1\n";
+    b"# moments are milliseconds since the hub's clock began\n5 node suspect node=1 meaning=\"no sign of life for long: it gets no new sessions until it gives one\"\n";
 
 #[test]
 fn a_log_goes_on_where_its_input_grows(rt: HostRuntime) -> Result<(), Fail> {
@@ -107,5 +107,35 @@ fn the_word_asks_for_it(rt: HostRuntime) -> Result<(), Fail> {
     let found = report_main(alloc, words.as_slice(), &mut input, &mut output, &mut clock);
     assert_eq!(rt; (found, clock.pauses()), (5, 1));
     assert_eq!(rt; output.taken(), BOTH);
+    Ok(())
+}
+
+#[test]
+fn a_log_goes_on_behind_what_is_past(rt: HostRuntime) -> Result<(), Fail> {
+    let alloc = rt.alloc();
+    let mut past = Recall::new(alloc);
+    let caps = browser(alloc, "chrome").ok_or(NoMemory)?;
+    let change = bound(caps, 1, 9, "s", 5).ok_or(NoMemory)?;
+    past.note(&Entry { caller: 3, change })?;
+    let mut journal = head(alloc)?;
+    let change = ended(1, EndCause::Idle, 7).ok_or(NoMemory)?;
+    put(alloc, &mut journal, &Entry { caller: 3, change })?;
+    let mut input = MemSource::new(Bytes::of(alloc, journal.as_slice())?, 23, Vec::new(alloc));
+    let mut output = MemSink::new(alloc, 19, Vec::new(alloc));
+    let mut clock = MemClock::new(Moment(0));
+    let found = log_behind(
+        alloc,
+        Form::Text,
+        past,
+        0,
+        &mut input,
+        &mut output,
+        &mut clock,
+    );
+    assert_eq!(rt; found, 0);
+    assert_eq!(rt;
+        output.taken(),
+        b"# moments are milliseconds since the hub's clock began\n7 session ended session=s request=1 node=9 slot=0 cause=idle lasted_ms=2\n".as_slice()
+    );
     Ok(())
 }

@@ -3,7 +3,7 @@ use crate::changes::{
     beaten, bound, browser, cleared, ended, failed, queued, refused, registered, suspected, taken,
     version,
 };
-use crate::logs::{head, log, put};
+use crate::logs::{head, head_of, log, put};
 use grid_types::{Change, EndCause, Entry, FailWhy, Moment, NoMemory, SlotId};
 use std::alloc::Global;
 use std::test::Fail;
@@ -43,15 +43,24 @@ const LINES: [(u64, &str); 29] = [
         6,
         "7000 request queued request=3 browser=\"chrome\" deadline=307000\n",
     ),
-    // It is tried again.
-    (3, ""),
+    // Other nodes are tried.
     (
         3,
-        "7400 request refused request=3 node=1 slot=1 why=\"the node refused\" message=\"no display: \\\"99\\\"\" waited_ms=400\n",
+        "7300 start failed request=3 node=1 slot=1 name=\"red \\\"one\\\"\" why=\"the node did not answer\" waited_ms=300\n",
+    ),
+    (
+        3,
+        "7400 request refused request=3 node=1 slot=1 name=\"red \\\"one\\\"\" why=\"the node refused\" message=\"no display: \\\"99\\\"\" waited_ms=400\n",
     ),
     (6, ""),
-    (1, "121000 node suspect node=1 name=\"red \\\"one\\\"\"\n"),
-    (1, "122000 node back node=1 name=\"red \\\"one\\\"\"\n"),
+    (
+        1,
+        "121000 node suspect node=1 name=\"red \\\"one\\\"\" meaning=\"no sign of life for long: it gets no new sessions until it gives one\"\n",
+    ),
+    (
+        1,
+        "122000 node back node=1 name=\"red \\\"one\\\"\" meaning=\"it gave a sign of life\"\n",
+    ),
     // It was not suspect any more.
     (1, ""),
     (
@@ -74,7 +83,7 @@ const LINES: [(u64, &str); 29] = [
     (8, ""),
     (
         1,
-        "246500 node lapsed node=2 name=\"blue\"\n246500 session ended session=s-2 request=2 node=2 slot=0 cause=node lasted_ms=240000\n",
+        "246500 node lapsed node=2 name=\"blue\" meaning=\"no sign of life for too long: its sessions are over\"\n246500 session ended session=s-2 request=2 node=2 slot=0 cause=node lasted_ms=240000\n",
     ),
     (
         10,
@@ -84,12 +93,18 @@ const LINES: [(u64, &str); 29] = [
         2,
         "250900 session created session=s-6 request=6 node=1 slot=0 name=\"red \\\"one\\\"\" waited_ms=900 browser=\"chrome\"\n",
     ),
-    (1, "261000 node draining node=1 name=\"red \\\"one\\\"\"\n"),
+    (
+        1,
+        "261000 node draining node=1 name=\"red \\\"one\\\"\" meaning=\"it gets no new sessions\"\n",
+    ),
     (
         12,
         "550900 session ended session=s-6 request=6 node=1 slot=0 cause=idle lasted_ms=300000\n",
     ),
-    (1, "561000 node removed node=1 name=\"red \\\"one\\\"\"\n"),
+    (
+        1,
+        "561000 node removed node=1 name=\"red \\\"one\\\"\" meaning=\"sessions that run on it go on\"\n",
+    ),
 ];
 
 fn early(alloc: Global, number: u64) -> Option<Change> {
@@ -176,14 +191,22 @@ fn each_kind_of_entry_has_its_line(rt: HostRuntime) -> Result<(), Fail> {
     Ok(())
 }
 
-/// What is told of a request that times out, as JSON.
-const TIMED_OUT: &[u8] =
-    b"{\"moments\":\"milliseconds since the hub's clock began\"}\n{\"at\":7,\"event\":\"request queued\",\"request\":1,\"browser\":\"chrome\",\"deadline\":300007}\n{\"at\":300007,\"event\":\"request timed out\",\"request\":1,\"waited_ms\":300000}\n";
+/// What is told of a request that fills the queue and times out, as JSON and as text.
+const TIMED_OUT: [(&[&str], &str); 2] = [
+    (
+        &["--json"],
+        "{\"moments\":\"milliseconds since the hub's clock began\"}\n{\"at\":7,\"event\":\"request queued\",\"request\":1,\"browser\":\"chrome\",\"deadline\":300007}\n{\"at\":7,\"event\":\"queue full\",\"requests\":1,\"limit\":1,\"meaning\":\"further requests are refused\"}\n{\"at\":300007,\"event\":\"request timed out\",\"request\":1,\"waited_ms\":300000}\n{\"at\":300007,\"event\":\"queue has room\",\"requests\":0,\"limit\":1,\"meaning\":\"requests are taken again\"}\n",
+    ),
+    (
+        &[],
+        "# moments are milliseconds since the hub's clock began\n7 request queued request=1 browser=\"chrome\" deadline=300007\n7 queue full requests=1 limit=1 meaning=\"further requests are refused\"\n300007 request timed out request=1 waited_ms=300000\n300007 queue has room requests=0 limit=1 meaning=\"requests are taken again\"\n",
+    ),
+];
 
 #[test]
-fn lines_are_objects_of_json(rt: HostRuntime) -> Result<(), Fail> {
+fn a_full_queue_is_told_in_both_forms(rt: HostRuntime) -> Result<(), Fail> {
     let alloc = rt.alloc();
-    let mut journal = head(alloc)?;
+    let mut journal = head_of(alloc, 1)?;
     let change = queued(alloc, 1, "chrome", 7).ok_or(NoMemory)?;
     put(alloc, &mut journal, &Entry { caller: 3, change })?;
     let change = Change::TimedOut {
@@ -191,9 +214,11 @@ fn lines_are_objects_of_json(rt: HostRuntime) -> Result<(), Fail> {
         at: Moment(300_007),
     };
     put(alloc, &mut journal, &Entry { caller: 3, change })?;
-    let (status, written) = log(alloc, &["--json"], journal.as_slice(), &[], &[])?;
-    assert_eq!(rt; status, 0);
-    assert_eq!(rt; written.as_slice(), TIMED_OUT);
+    for (words, told) in TIMED_OUT {
+        let (status, written) = log(alloc, words, journal.as_slice(), &[], &[])?;
+        assert_eq!(rt; status, 0);
+        assert_eq!(rt; written.as_slice(), told.as_bytes());
+    }
     Ok(())
 }
 

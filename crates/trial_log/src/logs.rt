@@ -8,7 +8,16 @@ use std::test::Fail;
 
 /// The head of a journal with the usual configuration.
 pub fn head(alloc: Global) -> Result<Vec<u8>, Fail> {
-    let head = write_head(alloc, &HubConfig::default())?;
+    head_of(alloc, HubConfig::default().queue_requests)
+}
+
+/// The same of a hub whose queue takes so many requests.
+pub fn head_of(alloc: Global, queue_requests: u32) -> Result<Vec<u8>, Fail> {
+    let config = HubConfig {
+        queue_requests,
+        ..HubConfig::default()
+    };
+    let head = write_head(alloc, &config)?;
     let mut bytes = Vec::new(alloc);
     bytes.extend_from_slice(head.as_bytes())?;
     Ok(bytes)

@@ -14,8 +14,8 @@ fn reserved(request: u64, index: u16, at: u64) -> Option<Change> {
     })
 }
 
-/// A session is created after 0.9 s. A minute later two requests come; a start for the second of them fails, and another is under
-/// way.
+/// A session is created after 0.9 s. A minute later three requests come. A start for the second of them fails; one for the third is
+/// under way on the third slot, and then another for the second on the slot before that.
 fn change(alloc: Global, number: u64) -> Option<Change> {
     match number {
         0 => registered(alloc, 1, "red \"one\"", 1_000),
@@ -24,15 +24,17 @@ fn change(alloc: Global, number: u64) -> Option<Change> {
         3 => bound(version(alloc, "chrome", "126.0")?, 1, 1, "s-1", 2_900),
         4 => queued(alloc, 2, "chrome", 61_000),
         5 => queued(alloc, 3, "chrome", 62_000),
-        6 => reserved(3, 1, 62_000),
-        7 => failed(3, FailWhy::Unreachable, false, 62_300),
+        6 => queued(alloc, 4, "chrome", 62_000),
+        7 => reserved(3, 1, 62_000),
+        8 => failed(3, FailWhy::Unreachable, false, 62_300),
+        9 => reserved(4, 2, 62_400),
         _ => reserved(3, 1, 62_500),
     }
 }
 
 fn journal(alloc: Global) -> Result<Vec<u8>, Fail> {
     let mut journal = head(alloc)?;
-    for number in 0..9 {
+    for number in 0..11 {
         let change = change(alloc, number).ok_or(NoMemory)?;
         put(alloc, &mut journal, &Entry { caller: 3, change })?;
     }
@@ -54,7 +56,7 @@ grid_sessions_ended_total{cause=\"node\"} 0
 grid_starts_failed_total 1
 # HELP grid_requests_queued_total Requests for a session that were queued.
 # TYPE grid_requests_queued_total counter
-grid_requests_queued_total 3
+grid_requests_queued_total 4
 # HELP grid_requests_timed_out_total Requests whose deadline came first.
 # TYPE grid_requests_timed_out_total counter
 grid_requests_timed_out_total 0
@@ -104,8 +106,8 @@ grid_nodes{state=\"suspect\"} 0
 grid_nodes{state=\"draining\"} 0
 # HELP grid_slots Slots by their state.
 # TYPE grid_slots gauge
-grid_slots{state=\"free\"} 2
-grid_slots{state=\"starting\"} 1
+grid_slots{state=\"free\"} 1
+grid_slots{state=\"starting\"} 2
 grid_slots{state=\"busy\"} 1
 grid_slots{state=\"closing\"} 0
 # HELP grid_sessions Sessions that run.
@@ -116,7 +118,7 @@ grid_sessions 1
 grid_queue_waiting 1
 # HELP grid_journal_entries_total Entries of the journal.
 # TYPE grid_journal_entries_total counter
-grid_journal_entries_total 9
+grid_journal_entries_total 11
 # HELP grid_last_entry_seconds The moment of the last entry, since the hub's clock began.
 # TYPE grid_last_entry_seconds gauge
 grid_last_entry_seconds 62.500
@@ -150,7 +152,7 @@ text { font-size: 12px; }
 <h2>Nodes</h2>
 <table>
 <tr><th>Node</th><th>Name</th><th>State</th><th>Slots in use</th><th>Free</th></tr>
-<tr><td>1</td><td>red &quot;one&quot;</td><td class=\"up\">up</td><td><i class=\"busy\">0</i><i class=\"starting\">1</i></td><td>2</td></tr>
+<tr><td>1</td><td>red &quot;one&quot;</td><td class=\"up\">up</td><td><i class=\"busy\">0</i><i class=\"starting\">1</i><i class=\"starting\">2</i></td><td>1</td></tr>
 </table>
 <h2>Waiting requests</h2>
 <table>
@@ -166,7 +168,7 @@ text { font-size: 12px; }
 <rect x=\"610\" y=\"110\" width=\"8\" height=\"0\"/>
 <path d=\"M600 110H600V110H610V10H620\"/>
 </svg>
-<p>Bars: sessions that were created in a minute, at most 1. Line: requests that were not settled, at most 2.</p>
+<p>Bars: sessions that were created in a minute, at most 1. Line: requests that were not settled, at most 3.</p>
 </body>
 </html>
 ";

@@ -17,7 +17,7 @@ pub loop-done-preserved : goal.loop-done-preserved
 loop-done-preserved g c = record {
   followed = λ old before h.
       went_on c.loop-done.done old _ _ before _ _ c.loop-done.self c.run-status.new.self _ c.loop-done.self.teller.form c.run-status.result (c.loop-done.invariant.followed old before h)
-      c.run-status.ensures.goes c.run-status.ensures.stays (c.may_go_on.ensures.0 c.if-not-may_go_on.false) c.go_on.ensures.read c.go_on.ensures.again refl refl;
+      c.run-status.ensures.goes c.run-status.ensures.stays (c.may_go_on.ensures.0 c.if-not-may_go_on.false) c.go_on.ensures.read c.go_on.ensures.again refl refl c.go_on.ensures.config;
   pauses = pause_more _ (g.C.Clock.view c.loop-done.clock).pauses _ c.loop-done.done _ _ c.loop-done.invariant.pauses c.pause.ensures.told;
   teller = c.run-status.ensures.teller ∙ c.loop-done.invariant.teller;
 }
@@ -32,7 +32,7 @@ returns g c =
           (ap (λ (t : Teller). t.form) (sym c.loop-done.invariant.teller)) refl;
       waits = λ old before h may. record {
         paused_so = subst (λ (n : ℕ). IfSome (g.C.Clock.view c.args.clock.now).pauses (λ p. (g.C.Clock.view c.loop-done.clock).pauses ≡ Some (waited n p))) all c.loop-done.invariant.pauses;
-        found_ends = subst (λ (n : ℕ). FoundEnds (n + 1) old.ends (g.S.Source.view c.run.new.input).ends) all
+        found_ends = subst (λ (n : ℕ). FoundEnds (n + 1) old.input.ends (g.S.Source.view c.run.new.input).ends) all
             (found_last c.loop-done.done old _ _ before _ _ c.loop-done.self c.loop-done.self.teller.form c.run.result (c.loop-done.invariant.followed old before h) c.run.ensures.goes may);
       };
     }

@@ -1,6 +1,7 @@
 use Rattle.std.proofs.Common.{ap}
 use Rattle.std.specs.Prelude.{codes, option_copied}
 use Rattle.std.proofs.lemmas.Result.{IfOk-weaker}
+use Rattle.grid_log.specs.declared.telling.TheConstants.{DRAINING, SUSPECT}
 use Rattle.grid_log.specs.Events.{change_events}
 use Rattle.grid_log.specs.Past.{name_in, queued_in}
 use Rattle.grid_log.specs.Recalls.{recalled}
@@ -12,7 +13,7 @@ returns-in-Suspected c =
     let past = c.args.past.now in
     let entry = c.args.entry.now in
     IfOk-weaker c.of_node.result _ _ (λ bytes h.
-    node_told c.args.self.now.form (codes "node suspect") c.in-Suspected.node c.in-Suspected.at.0 (option_copied c.name_of.result) (name_in (recalled past).nodes c.in-Suspected.node)
+    node_told c.args.self.now.form (codes "node suspect") SUSPECT.now c.in-Suspected.node c.in-Suspected.at.0 (option_copied c.name_of.result) (name_in (recalled past).nodes c.in-Suspected.node)
     (change_events (recalled past) entry.caller entry.change) bytes.items h c.name_of.ensures
     (ap (change_events (recalled past) entry.caller) c.in-Suspected.is))
     c.of_node.ensures
@@ -22,7 +23,7 @@ returns-in-Draining c =
     let past = c.args.past.now in
     let entry = c.args.entry.now in
     IfOk-weaker c.of_node-in-Draining.result _ _ (λ bytes h.
-    node_told c.args.self.now.form (codes "node draining") c.in-Draining.node c.in-Draining.at.0 (option_copied c.name_of-in-Draining.result) (name_in (recalled past).nodes c.in-Draining.node)
+    node_told c.args.self.now.form (codes "node draining") DRAINING.now c.in-Draining.node c.in-Draining.at.0 (option_copied c.name_of-in-Draining.result) (name_in (recalled past).nodes c.in-Draining.node)
     (change_events (recalled past) entry.caller entry.change) bytes.items h c.name_of-in-Draining.ensures
     (ap (change_events (recalled past) entry.caller) c.in-Draining.is))
     c.of_node-in-Draining.ensures

@@ -1,5 +1,5 @@
 use Rattle.grid_log.specs.Logs.{Input, input_of}
-use Rattle.grid_log.proofs.log.log_lines.Goals as goal
+use Rattle.grid_log.proofs.log.log_behind.Goals as goal
 
 pub returns-in-Ok-clause-waits : goal.returns-in-Ok-clause-waits
 returns-in-Ok-clause-waits g c =
