@@ -4,11 +4,14 @@ ghost use Rattle.grid_outside.specs.Counts.{Rose};
 ghost use Rattle.journal_reader.specs.Feeds.{waiting, Grew, Reads, HasMore};
 
 use crate::feed::{Feed, ReadFault};
-use grid_outside::{PIECE_BYTES, Source};
+use grid_outside::Source;
 use std::alloc::Global;
 
 /// The most bytes that are read.
 const MOST_BYTES: u64 = 1 << 40;
+
+/// At most so many bytes are read at once. Whoever writes a journal as it grows gives few, and the place for all is cleared each time.
+const ONCE_BYTES: usize = 8_192;
 
 impl Feed {
     /// Nothing was read yet. It takes no memory.
@@ -108,12 +111,12 @@ impl Feed {
         ensures cause { IsErrOf result ReadFault.Read →
             Rose (S.view input.old).faults (S.view input.new).faults }
     {
-        let mut piece = [0; PIECE_BYTES];
+        let mut piece = [0; ONCE_BYTES];
         let left = MOST_BYTES - self.taken - self.count() as u64;
-        let room = if left < PIECE_BYTES as u64 {
+        let room = if left < ONCE_BYTES as u64 {
             left as usize
         } else {
-            PIECE_BYTES
+            ONCE_BYTES
         };
         match input.read(&mut piece[..room]) {
             Ok(0) => {
