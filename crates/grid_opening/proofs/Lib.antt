@@ -1,1 +1,4 @@
 mod GoesLemmas
+mod ReadLemmas
+mod SlotLemmas
+mod StepLemmas

@@ -10,8 +10,13 @@ pub enum OpeningFault {
     Memory,
     /// An entry could not be read again, since its moment is past the last one that there is.
     Late,
-    /// Something is still open.
-    Open,
     /// A caller has the greatest number that there is, so that none is left for a pass.
     Numbers,
+}
+
+/// Nothing was handed over, and what keeps the journal comes back.
+#[derive(Drop)]
+pub struct Unsettled<K: Drop> {
+    pub fault: OpeningFault,
+    pub keeper: K,
 }

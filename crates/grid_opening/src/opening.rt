@@ -1,11 +1,13 @@
 //! A history that goes on before anybody has a pass.
-ghost use Rattle.std.specs.Prelude.{◌≡◌, OnOk};
-ghost use Rattle.grid_opening.specs.Openings.{GoesOn, Is};
+ghost use Rattle.std.specs.Prelude.{◌≡◌, max};
+ghost use Rattle.grid_types.specs.History.{clock};
+ghost use Rattle.grid_ledger.specs.LedgerStands.{LedgerTells};
+ghost use Rattle.grid_opening.specs.Openings.{Entered, Is};
 
 use crate::fault::OpeningFault;
 use grid_journal::{Piece, PieceFault};
 use grid_ledger::{GridLedger, Listener};
-use grid_types::Change;
+use grid_types::{Change, Moment};
 use hub_tellers::told_change;
 use journal_keeper::Keeper;
 use std::alloc::Global;
@@ -55,9 +57,16 @@ impl<K: Keeper + Drop, L: Listener + Drop> Opening<K, L> {
         &self.listener
     }
 
+    /// The moment, or that of the last entry where that is later.
+    pub(crate) fn raised(&self, at: Moment) -> Moment
+        ensures { LedgerTells self.now.ledger (λ H. result.0 ≡ max at.0 (clock H)) }
+    {
+        Moment(at.0.max(self.ledger.clock().0))
+    }
+
     /// Makes the caller's change, where it may follow, and does nothing where it may not.
     pub(crate) fn enter(&mut self, caller: u64, change: Change) -> Result<(), OpeningFault>
-        ensures { OnOk result (GoesOn K.kept L.heard self.old self.new) }
+        ensures { Entered K.kept L.heard K.faults self.old self.new caller change result }
     {
         if !self.ledger.permits(caller, &change) {
             return Ok(());

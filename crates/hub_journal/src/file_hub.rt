@@ -199,7 +199,7 @@ impl<F: Files<File = File> + Drop, N: NodeLink + Drop, C: Clock + Drop> FileHub<
         );
         match begun {
             Ok(begun) => Ok(begun),
-            Err(fault) => self.fails(Trouble::Opening(fault), Unbegun::Failed),
+            Err(unsettled) => self.fails(Trouble::Opening(unsettled.fault), Unbegun::Failed),
         }
     }
 

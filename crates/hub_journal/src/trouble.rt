@@ -39,7 +39,6 @@ fn opening_words(fault: OpeningFault) -> &'static str {
         OpeningFault::Unkept => "an entry could not be written; is the disk full?",
         OpeningFault::Memory => "out of memory",
         OpeningFault::Late => "its last moment is the last that there is",
-        OpeningFault::Open => "something is still under way in it",
         OpeningFault::Numbers => "it has used up the numbers of callers",
     }
 }

@@ -7,7 +7,7 @@ ghost use Rattle.hub_core.specs.CoreStands as of_core;
 ghost use Rattle.grid_ledger.specs.LedgerStands as of_ledger;
 ghost use Rattle.map_view.specs.Lists.{listed};
 ghost use Rattle.map_view.specs.Maps.{published, pending};
-ghost use Rattle.hub_cell.specs.Passes.{BeginsAs, IsOf, core_of, keeping_of, spares_of};
+ghost use Rattle.hub_cell.specs.Passes.{BeginsAs, IsOf, core_of, first_of, keeping_of, spares_of};
 ghost use Rattle.hub_opening.specs.Handed.{IsHanded};
 
 use grid_opening::Settled;
@@ -79,6 +79,7 @@ pub fn go_on<R: Wait>(
     ensures stands { IfOk result (λ r. (H : List Entry) → of_ledger.Stands settled.ledger H →
         of_core.Stands (core_of r.0) H) }
     ensures keeping { IfOk result (λ r. keeping_of r.0 ≡ settled.keeper) }
+    ensures first { IfOk result (λ r. first_of r.0 ≡ settled.first_caller) }
 {
     // For the proof alone: the bytes of a log are the journal of its history.
     written_is_journal();

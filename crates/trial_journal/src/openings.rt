@@ -30,16 +30,14 @@ fn opened(alloc: Global, bytes: &[u8], fails: u64) -> Option<Settled<MemKeeper, 
     let found = read(alloc, bytes)?;
     let keeper = kept(alloc, bytes, found.whole, fails)?;
     let at = Moment(found.ledger.clock().0.saturating_add(1));
-    let mut opening = Opening::new(
+    let opening = Opening::new(
         alloc,
         found.ledger,
         found.listener,
         keeper,
         found.most_caller,
     );
-    opening.settle(at).ok()?;
-    opening.refresh(&mut NoEnder, at).ok()?;
-    opening.finish().ok()
+    opening.settle(&mut NoEnder, at).ok()
 }
 
 /// Whether the opening of the bytes leaves a legal journal with nothing open.

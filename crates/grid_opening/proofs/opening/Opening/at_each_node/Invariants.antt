@@ -1,5 +1,8 @@
-use Rattle.grid_opening.specs.Openings.{GoesOn}
+use Rattle.std.specs.Prelude.{Ok}
+use Rattle.grid_opening.specs.Openings.{Went}
+use Rattle.grid_opening.specs.Settling.{Stays}
+use Rattle.grid_opening.proofs.GoesLemmas.{done}
 use Rattle.grid_opening.proofs.opening.Opening.at_each_node.Given as goal
 
 abbrev pub invariant-loop-node : goal.invariant-loop-node
-invariant-loop-node g l = GoesOn g.K.Keeper.kept g.L.Listener.heard l.fn.self l.self
+invariant-loop-node g l = Went g.K.Keeper.kept g.L.Listener.heard g.K.Keeper.faults l.at.0 Stays l.fn.self l.self (Ok done)

@@ -1,5 +1,15 @@
-use Rattle.grid_opening.proofs.GoesLemmas.{goes_both, on_ok}
+use Rattle.std.proofs.lemmas.Result.{err_from_is_err_and}
+use Rattle.grid_opening.specs.declared.settling.SlotWork.TheVariants as work
+use Rattle.grid_opening.specs.Settling.{Always, Clears, Closes, EachRequest, EachSlot, NoHeld, Refreshes, Settles, Stays, TakesGiven}
+use Rattle.grid_opening.proofs.GoesLemmas.{went_both, went_off}
+use Rattle.grid_opening.proofs.SlotLemmas.{closes, refreshes, settles, stays_both}
 use Rattle.grid_opening.proofs.opening.Opening.refresh.Goals as goal
 
+pub returns-in_err-at_each_slot : goal.returns-in_err-at_each_slot
+returns-in_err-at_each_slot g c =
+    let p = err_from_is_err_and c.from_residual.result c.from_residual.ensures.1 in rw (p.1, p.2) (went_off g.K.Keeper.kept g.L.Listener.heard g.K.Keeper.faults Always Always c.args.at.0 (Clears work.Free c.args.at.0 EachSlot) (Refreshes c.args.at.0) c.args.self.now c.at_each_slot.new.self c.in_err-at_each_slot.field-0.0 c.in_err-at_each_slot.ensures)
+
 pub returns : goal.returns
-returns g c = on_ok c.hear_all.result (λ more. goes_both g.K.Keeper.kept g.L.Listener.heard _ _ _ c.in_ok-at_each_slot.ensures more) c.hear_all.ensures
+returns g c =
+    let a = c.args in
+    went_both g.K.Keeper.kept g.L.Listener.heard g.K.Keeper.faults a.at.0 (Clears work.Free a.at.0 EachSlot) Stays (Refreshes a.at.0) a.self.now c.at_each_slot.new.self c.hear_all.new.self _ c.hear_all.result c.in_ok-at_each_slot.ensures c.hear_all.ensures (refreshes a.at.0)
