@@ -1,6 +1,6 @@
 -- The command of the attach program, and why words are refused.
 use Rattle.std.proofs.Common.{◌≡◌, ◌≢◌, ℕ, List, [], ◌∷◌, Bool, true, false, refl, subst, sym, ap}
-use Rattle.std.specs.Prelude.{IfErr, IfOk, IfSome, Result, Ok, Err, Some, is_some, pos, codes}
+use Rattle.std.specs.Prelude.{IfErr, IfOk, IfSome, Result, Ok, Err, Some, pos, codes}
 use Rattle.std.specs.Result.{IsErrAnd}
 use Rattle.clap.proofs.OnLiterals.{clap_on_literals}
 use Rattle.clap.specs.Words.{App, IsAmong, IsSignedIn, Row, Text, fault_of, first_of, is_simple_and_free, kind_of, matches_of}
@@ -14,13 +14,16 @@ use Rattle.server_words.specs.declared.attach.AttachFault.{AttachFault}
 use Rattle.server_words.specs.declared.attach.AttachFault.TheVariants as fault
 use Rattle.server_words.specs.declared.attach.AttachWords.{AttachWords}
 
-pub attach_simple : is_simple_and_free attach_command ≡ true
-unfolding clap_on_literals
-attach_simple = refl
+attach_is_simple : is_simple_and_free attach_command ≡ true
+unfolding clap_on_literals attach_command
+attach_is_simple = refl
+
+pub attach_simple : (app : App) → app ≡ attach_command → is_simple_and_free app ≡ true
+attach_simple app e = rw e attach_is_simple
 
 module _ (rows : List Row) (fit : NumbersFit attach_command rows) where
   pub slots_fit : IfSome (first_of (codes "slots") rows) (IsSignedIn (pos 1) (pos 64))
-  unfolding clap_on_literals
+  unfolding clap_on_literals attach_command
   slots_fit = fit (codes "slots") 1 64 refl refl
 
 -- a value's cause is one of the words' that the command found it in

@@ -5,7 +5,7 @@ use Rattle.clap.specs.Simple.{app_of_fields, on_top}
 use Rattle.clap.specs.declared.builder.arg.Arg.{Arg}
 use Rattle.clap.specs.declared.builder.command.Command.{Command}
 use Rattle.clap.specs.declared.builder.command.Command.TheViews.{out-Command}
-use Rattle.server_words.specs.Options.{IsTaken, bare}
+use Rattle.server_words.specs.Options.{IsTaken, bare, with_rules}
 
 pub started : (name : List ℕ) (c d : Command) → app_of c ≡ new_app name
     → out-Command d ≡ record (out-Command c) { no_binary_name = true } → app_of d ≡ bare name
@@ -14,6 +14,10 @@ started name c d new e = ap app_of_fields e ∙ ap (on_top (λ s. record s { no_
 pub with_option : (app : App) (rule : Rule) (c d : Command) (a : Arg) → app_of c ≡ app → AddsArg c a d → a.global ≡ false → rule_of a ≡ rule
     → app_of d ≡ with_rule app rule
 with_option app rule c d a so_far added local same = added.shape local ∙ ap₂ with_rule so_far same
+
+-- the options of a whole table
+pub all_options : (name : List ℕ) (c d : Command) (rules : List Rule) → app_of c ≡ bare name → app_of d ≡ with_rules (app_of c) rules → app_of d ≡ with_rules (bare name) rules
+all_options name c d rules begun built = built ∙ ap (λ (app : App). with_rules app rules) begun
 
 pub taken_as : (app same : App) (found words : List Text) → app ≡ same → found ≡ words → IsTaken app found → IsTaken same words
 taken_as app same found words e w h = rw (← e, ← w) h

@@ -5,7 +5,7 @@ use Rattle.grid_types.specs.declared.config.HubConfig.{HubConfig}
 use Rattle.std.proofs.lemmas.Int.{ints}
 use Rattle.std.specs.Prelude.{Option, None, Some, IfSome, pos, codes}
 use Rattle.clap.proofs.OnLiterals.{clap_on_literals}
-use Rattle.clap.specs.Words.{IsSignedIn, Row, Text, first_of, is_simple_and_free}
+use Rattle.clap.specs.Words.{App, IsSignedIn, Row, Text, first_of, is_simple_and_free}
 use Rattle.server_words.specs.HubOptions.{hub_command}
 use Rattle.server_words.specs.NodeOptions.{node_command}
 use Rattle.server_words.specs.Options.{NumbersFit}
@@ -17,50 +17,56 @@ wider (Some t) least most le h =
     let high = h.3 in
     (h.0, h.1, omega (arith, ints), omega (arith, ints))
 
-pub hub_simple : is_simple_and_free hub_command ≡ true
-unfolding clap_on_literals
-hub_simple = refl
+hub_is_simple : is_simple_and_free hub_command ≡ true
+unfolding clap_on_literals hub_command
+hub_is_simple = refl
 
-pub node_simple : is_simple_and_free node_command ≡ true
-unfolding clap_on_literals
-node_simple = refl
+pub hub_simple : (app : App) → app ≡ hub_command → is_simple_and_free app ≡ true
+hub_simple app e = rw e hub_is_simple
+
+node_is_simple : is_simple_and_free node_command ≡ true
+unfolding clap_on_literals node_command
+node_is_simple = refl
+
+pub node_simple : (app : App) → app ≡ node_command → is_simple_and_free app ≡ true
+node_simple app e = rw e node_is_simple
 
 module _ (rows : List Row) (fit : NumbersFit hub_command rows) where
   pub port_fits : IfSome (first_of (codes "port") rows) (IsSignedIn (pos 1) (pos 65_535))
-  unfolding clap_on_literals
+  unfolding clap_on_literals hub_command
   port_fits = fit (codes "port") 1 65_535 refl refl
 
   pub wait_fits : IfSome (first_of (codes "session-request-timeout") rows) (IsSignedIn (pos 1) (pos 86_400))
-  unfolding clap_on_literals
+  unfolding clap_on_literals hub_command
   wait_fits = fit (codes "session-request-timeout") 1 86_400 refl refl
 
   pub idle_fits : IfSome (first_of (codes "session-timeout") rows) (IsSignedIn (pos 10) (pos 86_400))
-  unfolding clap_on_literals
+  unfolding clap_on_literals hub_command
   idle_fits = fit (codes "session-timeout") 10 86_400 refl refl
 
   pub queue_fits : IfSome (first_of (codes "queue-limit") rows) (IsSignedIn (pos 1) (pos 10_000))
-  unfolding clap_on_literals
+  unfolding clap_on_literals hub_command
   queue_fits = fit (codes "queue-limit") 1 10_000 refl refl
 
   pub handlers_fit : IfSome (first_of (codes "handlers") rows) (IsSignedIn (pos 1) (pos 128))
-  unfolding clap_on_literals
+  unfolding clap_on_literals hub_command
   handlers_fit = fit (codes "handlers") 1 128 refl refl
 
   pub workers_fit : IfSome (first_of (codes "workers") rows) (IsSignedIn (pos 0) (pos 64))
-  unfolding clap_on_literals
+  unfolding clap_on_literals hub_command
   workers_fit = fit (codes "workers") 0 64 refl refl
 
   pub connections_fit : IfSome (first_of (codes "connections") rows) (IsSignedIn (pos 1) (pos 20_000))
-  unfolding clap_on_literals
+  unfolding clap_on_literals hub_command
   connections_fit = fit (codes "connections") 1 20_000 refl refl
 
 module _ (rows : List Row) (fit : NumbersFit node_command rows) where
   pub node_port_fits : IfSome (first_of (codes "port") rows) (IsSignedIn (pos 1) (pos 65_535))
-  unfolding clap_on_literals
+  unfolding clap_on_literals node_command
   node_port_fits = fit (codes "port") 1 65_535 refl refl
 
   pub slots_fit : IfSome (first_of (codes "slots") rows) (IsSignedIn (pos 1) (pos 64))
-  unfolding clap_on_literals
+  unfolding clap_on_literals node_command
   slots_fit = fit (codes "slots") 1 64 refl refl
 
 pub valid_config : (wait idle waiting : ℕ) (rejects : Bool) (d : HubConfig) → d ≡ default_config → 1 ≤ wait → wait ≤ 86_400 → 10 ≤ idle → idle ≤ 86_400

@@ -1,29 +1,32 @@
 -- The options of the program that puts a driver behind a hub.
-use Rattle.std.specs.Prelude.{◌≡◌, ◌&&◌, ℕ, Bool, List, [], length, codes, false, is_some, nat_le, true}
+use Rattle.std.specs.Prelude.{◌∷◌, ◌≡◌, ◌&&◌, ℕ, Bool, List, [], length, codes, false, is_some, nat_le, true}
 use Rattle.std.specs.List.{list_all}
-use Rattle.clap.specs.Words.{App, IsAmong, Row, Text, all_of, fault_of, first_of, kind_of, matches_of, with_rule}
+use Rattle.clap.specs.Words.{App, IsAmong, Row, Rule, Text, all_of, fault_of, first_of, kind_of, matches_of}
 use Rattle.grid_types.specs.Names.{is_node_name_byte}
 use Rattle.grid_types.specs.declared.limits.TheConstants.{MOST_NAME_BYTES, MOST_SLOTS}
 use Rattle.server_words.specs.Addresses.{bare_address, is_reachable}
-use Rattle.server_words.specs.Options.{IsTaken, all_or_none, bare, number_of, number_or, switch_of, text_of, text_or, texts_of, truth_or}
+use Rattle.server_words.specs.Options.{IsTaken, all_or_none, bare, number_of, number_or, switch_of, text_of, text_or, texts_of, truth_or, with_rules}
 use Rattle.server_words.specs.OwnCapabilities.{caps_or_none, own_caps}
 use Rattle.server_words.specs.declared.attach.AttachFault.{AttachFault}
 use Rattle.server_words.specs.declared.attach.AttachFault.TheVariants as fault
 use Rattle.server_words.specs.declared.attach.AttachWords.{AttachWords}
 
-abbrev pub attach_command : App
-attach_command =
-    with_rule (with_rule (with_rule (with_rule (with_rule (with_rule (with_rule (with_rule (with_rule
-    (bare (codes "grid_attach"))
-    (text_of (codes "hub")))
-    (text_of (codes "driver")))
-    (text_of (codes "name")))
-    (text_of (codes "browser")))
-    (text_of (codes "browser-version")))
-    (text_of (codes "platform")))
-    (number_of (codes "slots") 1 MOST_SLOTS))
-    (texts_of (codes "capability")))
-    (switch_of (codes "once"))
+-- its options
+abbrev pub attach_rules : List Rule
+attach_rules =
+    text_of (codes "hub")
+    ∷ text_of (codes "driver")
+    ∷ text_of (codes "name")
+    ∷ text_of (codes "browser")
+    ∷ text_of (codes "browser-version")
+    ∷ text_of (codes "platform")
+    ∷ number_of (codes "slots") 1 MOST_SLOTS
+    ∷ texts_of (codes "capability")
+    ∷ switch_of (codes "once")
+    ∷ []
+
+unfoldable pub attach_command : App
+attach_command = with_rules (bare (codes "grid_attach")) attach_rules
 
 -- what each option with a text is set to, and what it is by default
 abbrev pub attach_hub : List Row → List ℕ

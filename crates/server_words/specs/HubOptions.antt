@@ -1,28 +1,30 @@
 -- The options of the hub's program.
-use Rattle.std.specs.Prelude.{◌*◌, ◌≤◌, List, codes, false}
-use Rattle.clap.specs.Words.{App, Row, Text, first_of, matches_of, with_rule}
+use Rattle.std.specs.Prelude.{◌∷◌, ◌*◌, ◌≤◌, List, [], codes, false}
+use Rattle.clap.specs.Words.{App, Row, Rule, Text, first_of, matches_of}
 use Rattle.grid_types.specs.Config.{default_config}
 use Rattle.grid_types.specs.declared.config.HubConfig.{HubConfig}
 use Rattle.grid_types.specs.declared.limits.TheConstants.{MOST_REQUESTS}
-use Rattle.server_words.specs.Options.{bare, number_of, number_or, text_of, truth_of, truth_or}
+use Rattle.server_words.specs.Options.{bare, number_of, number_or, text_of, truth_of, truth_or, with_rules}
 use Rattle.server_words.specs.declared.hub.HubWords.{HubWords}
 
-abbrev pub hub_command : App
-hub_command =
-    with_rule (with_rule (with_rule (with_rule (with_rule (with_rule (with_rule (with_rule (with_rule
-    (with_rule (with_rule
-    (bare (codes "grid_hub"))
-    (text_of (codes "host")))
-    (number_of (codes "port") 1 65_535))
-    (number_of (codes "session-request-timeout") 1 86_400))
-    (number_of (codes "session-timeout") 10 86_400))
-    (truth_of (codes "reject-unsupported-caps")))
-    (number_of (codes "queue-limit") 1 MOST_REQUESTS))
-    (number_of (codes "handlers") 1 128))
-    (number_of (codes "workers") 0 64))
-    (number_of (codes "connections") 1 20_000))
-    (text_of (codes "journal")))
-    (text_of (codes "journal-sync"))
+-- its options
+abbrev pub hub_rules : List Rule
+hub_rules =
+    text_of (codes "host")
+    ∷ number_of (codes "port") 1 65_535
+    ∷ number_of (codes "session-request-timeout") 1 86_400
+    ∷ number_of (codes "session-timeout") 10 86_400
+    ∷ truth_of (codes "reject-unsupported-caps")
+    ∷ number_of (codes "queue-limit") 1 MOST_REQUESTS
+    ∷ number_of (codes "handlers") 1 128
+    ∷ number_of (codes "workers") 0 64
+    ∷ number_of (codes "connections") 1 20_000
+    ∷ text_of (codes "journal")
+    ∷ text_of (codes "journal-sync")
+    ∷ []
+
+unfoldable pub hub_command : App
+hub_command = with_rules (bare (codes "grid_hub")) hub_rules
 
 -- the configuration that the words found tell; what they leave out is as by default
 abbrev pub config_told : List Row → HubConfig

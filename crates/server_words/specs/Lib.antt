@@ -7,3 +7,4 @@ pub mod NodeOptions
 pub mod Options
 pub mod OwnCapabilities
 pub mod Puts
+pub mod Tables

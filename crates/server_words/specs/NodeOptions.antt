@@ -1,20 +1,23 @@
 -- The options of the node's program.
-use Rattle.std.specs.Prelude.{◌≡◌, ℕ, List, codes, true}
-use Rattle.clap.specs.Words.{App, Row, Text, first_of, matches_of, with_rule}
+use Rattle.std.specs.Prelude.{◌∷◌, ◌≡◌, ℕ, List, [], codes, true}
+use Rattle.clap.specs.Words.{App, Row, Rule, Text, first_of, matches_of}
 use Rattle.grid_types.specs.Names.{is_node_address}
 use Rattle.grid_types.specs.declared.limits.TheConstants.{MOST_SLOTS}
-use Rattle.server_words.specs.Options.{IsTaken, bare, number_of, number_or, text_of, text_or}
+use Rattle.server_words.specs.Options.{IsTaken, bare, number_of, number_or, text_of, text_or, with_rules}
 use Rattle.server_words.specs.declared.node.NodeWords.{NodeWords}
 
-abbrev pub node_command : App
-node_command =
-    with_rule (with_rule (with_rule (with_rule (with_rule
-    (bare (codes "grid_node"))
-    (text_of (codes "hub")))
-    (number_of (codes "port") 1 65_535))
-    (text_of (codes "name")))
-    (text_of (codes "browser")))
-    (number_of (codes "slots") 1 MOST_SLOTS)
+-- its options
+abbrev pub node_rules : List Rule
+node_rules =
+    text_of (codes "hub")
+    ∷ number_of (codes "port") 1 65_535
+    ∷ text_of (codes "name")
+    ∷ text_of (codes "browser")
+    ∷ number_of (codes "slots") 1 MOST_SLOTS
+    ∷ []
+
+unfoldable pub node_command : App
+node_command = with_rules (bare (codes "grid_node")) node_rules
 
 -- the hub's address as the words found write it
 abbrev pub hub_address : List Row → List ℕ

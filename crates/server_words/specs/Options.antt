@@ -5,14 +5,19 @@ use Rattle.std.specs.List.{list_all}
 use Rattle.std.specs.Str.{bytes_eq}
 use Rattle.std.specs.Str.Parse.{digits_value, without_leading_sign}
 use Rattle.clap.specs.Simple.{on_top}
-use Rattle.clap.specs.Words.{App, IsSignedIn, Row, Rule, Text, fault_of, first_of, new_app, new_rule}
+use Rattle.clap.specs.Words.{App, IsSignedIn, Row, Rule, Text, fault_of, first_of, new_app, new_rule, with_rule}
+use Rattle.clap.specs.declared.builder.action.ArgAction.{ArgAction}
 use Rattle.clap.specs.declared.builder.action.ArgAction.TheVariants.{Append, Set}
 use Rattle.clap.specs.declared.builder.value_parser.ValueParser.{ValueParser}
 use Rattle.clap.specs.declared.builder.value_parser.ValueParser.TheVariants as parser
 
+-- an option by what it does with a value, and what takes that
+abbrev pub rule_with : List ℕ → ArgAction → ValueParser → Rule
+rule_with name does takes = record (new_rule name) { long = Some name; action = Some does; parser = Some takes }
+
 -- an option with one value that the parser takes; it may be set once
 abbrev pub option_of : List ℕ → ValueParser → Rule
-option_of name takes = record (new_rule name) { long = Some name; action = Some Set; parser = Some takes }
+option_of name takes = rule_with name Set takes
 
 -- an option with a number between two limits
 abbrev pub number_of : List ℕ → ℕ → ℕ → Rule
@@ -28,7 +33,7 @@ text_of name = option_of name parser.String
 
 -- an option with any text that may be set again and again
 abbrev pub texts_of : List ℕ → Rule
-texts_of name = record (new_rule name) { long = Some name; action = Some Append; parser = Some parser.String }
+texts_of name = rule_with name Append parser.String
 
 -- an option with `true` or `false`, which is true where it stands without a value
 abbrev pub switch_of : List ℕ → Rule
@@ -40,6 +45,11 @@ switch_of name = record (truth_of name) {
 -- the command with no option, which is handed its words without the program's name
 abbrev pub bare : List ℕ → App
 bare name = on_top (λ s. record s { no_binary_name = true }) (new_app name)
+
+-- the command with these options behind its own
+abbrev pub with_rules : App → List Rule → App
+with_rules app [] = app
+with_rules app (rule ∷ rules) = with_rules (with_rule app rule) rules
 
 -- the words are taken by the command
 abbrev pub IsTaken : App → List Text → Type 0

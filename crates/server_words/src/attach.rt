@@ -8,16 +8,12 @@ ghost use Rattle.server_words.specs.OwnCapabilities.{own_caps};
 ghost use Rattle.server_words.specs.declared.attach.AttachFault.TheVariants as fault;
 
 use crate::address::address_in;
-use crate::options::{
-    all_texts, matched, number, number_option, switch_option, text, text_option, texts,
-    texts_option, truth,
-};
+use crate::options::{all_texts, matched, number, text, texts, truth};
 use crate::own_capabilities::put_own;
+use crate::tables::{ATTACH_OPTIONS, with_options};
 use clap::error::ErrorKind;
 use clap::{ArgMatches, Command, Error};
-use grid_types::{
-    Caps, MOST_NAME_BYTES, MOST_SLOTS, NoMemory, NodeAddress, Text, are_node_name_bytes,
-};
+use grid_types::{Caps, MOST_NAME_BYTES, NoMemory, NodeAddress, Text, are_node_name_bytes};
 use std::alloc::{AllocError, Global};
 use std::fmt;
 
@@ -123,19 +119,11 @@ impl fmt::Display for AttachFault {
 }
 
 fn command<'a>(alloc: Global) -> Result<Command<'a>, AllocError>
-    ensures { IfOk result (λ c. app_of c ≡ attach_command) }
+    ensures app { IfOk result (λ c. app_of c ≡ attach_command) }
+    ensures simple { IfOk result (λ c. is_simple_and_free (app_of c) ≡ true) }
 {
     let bare = Command::new(alloc, "grid_attach").no_binary_name(true);
-    let one = bare.arg(text_option(alloc, "hub"))?;
-    let two = one.arg(text_option(alloc, "driver"))?;
-    let three = two.arg(text_option(alloc, "name"))?;
-    let four = three.arg(text_option(alloc, "browser"))?;
-    let five = four.arg(text_option(alloc, "browser-version"))?;
-    let six = five.arg(text_option(alloc, "platform"))?;
-    let seven = six.arg(number_option(alloc, "slots", 1, MOST_SLOTS))?;
-    let eight = seven.arg(texts_option(alloc, "capability"))?;
-    let nine = eight.arg(switch_option(alloc, "once"))?;
-    Ok(nine)
+    with_options(alloc, bare, ATTACH_OPTIONS)
 }
 
 /// Whether the text is no longer than a node's name may be.

@@ -1,17 +1,15 @@
 //! The words of the hub's program.
-ghost use Rattle.std.specs.Prelude.{◌≡◌, IfOk, IsErrOf};
+ghost use Rattle.std.specs.Prelude.{◌≡◌, IfOk, IsErrOf, true};
 ghost use Rattle.grid_types.specs.Config.{IsValid};
-ghost use Rattle.clap.specs.Words.{app_of, found_of, rows_of};
+ghost use Rattle.clap.specs.Words.{app_of, found_of, is_simple_and_free, rows_of};
 ghost use Rattle.server_words.specs.HubOptions.{AreWithin, hub_command, hub_said, hub_told};
 ghost use Rattle.server_words.specs.Options.{IsTaken, NumbersFit};
 ghost use Rattle.server_words.specs.declared.options.WordsFault.TheVariants as fault;
 
 use crate::host::hub_host;
 use crate::journal::hub_journal;
-use crate::options::{
-    WordsFault, found, matched, number, number_option, reason_of, text_option, texts, truth,
-    truth_option,
-};
+use crate::options::{WordsFault, found, matched, number, reason_of, texts, truth};
+use crate::tables::{HUB_OPTIONS, with_options};
 use clap::{ArgMatches, Command, Error};
 use grid_types::{HubConfig, MOST_REQUESTS, Text};
 use std::alloc::{AllocError, Global};
@@ -48,21 +46,11 @@ pub struct HubWords {
 }
 
 pub(crate) fn command<'a>(alloc: Global) -> Result<Command<'a>, AllocError>
-    ensures { IfOk result (λ c. app_of c ≡ hub_command) }
+    ensures app { IfOk result (λ c. app_of c ≡ hub_command) }
+    ensures simple { IfOk result (λ c. is_simple_and_free (app_of c) ≡ true) }
 {
     let bare = Command::new(alloc, "grid_hub").no_binary_name(true);
-    let first = bare.arg(text_option(alloc, "host"))?;
-    let one = first.arg(number_option(alloc, "port", 1, 65_535))?;
-    let two = one.arg(number_option(alloc, "session-request-timeout", 1, 86_400))?;
-    let three = two.arg(number_option(alloc, "session-timeout", 10, 86_400))?;
-    let four = three.arg(truth_option(alloc, "reject-unsupported-caps"))?;
-    let five = four.arg(number_option(alloc, "queue-limit", 1, MOST_REQUESTS))?;
-    let six = five.arg(number_option(alloc, "handlers", 1, 128))?;
-    let seven = six.arg(number_option(alloc, "workers", 0, 64))?;
-    let eight = seven.arg(number_option(alloc, "connections", 1, 20_000))?;
-    let nine = eight.arg(text_option(alloc, "journal"))?;
-    let ten = nine.arg(text_option(alloc, "journal-sync"))?;
-    Ok(ten)
+    with_options(alloc, bare, HUB_OPTIONS)
 }
 
 fn config(matches: &ArgMatches<'_>) -> HubConfig

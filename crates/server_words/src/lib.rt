@@ -23,6 +23,7 @@ mod journal;
 mod node;
 mod options;
 mod own_capabilities;
+mod tables;
 
 pub use address::address_in;
 pub use attach::{ATTACH_USAGE, AttachFault, AttachWords, attach_words};

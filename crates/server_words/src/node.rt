@@ -1,16 +1,15 @@
 //! The words of the node's program.
 ghost use Rattle.std.specs.Prelude.{◌≡◌, IfOk, IsErrOf, false, true};
-ghost use Rattle.clap.specs.Words.{app_of, found_of, rows_of};
+ghost use Rattle.clap.specs.Words.{app_of, found_of, is_simple_and_free, rows_of};
 ghost use Rattle.grid_types.specs.Names.{is_node_address};
 ghost use Rattle.server_words.specs.NodeOptions.{FitsNode, hub_address, node_command, node_said, node_told};
 ghost use Rattle.server_words.specs.Options.{NumbersFit};
 ghost use Rattle.server_words.specs.declared.options.WordsFault.TheVariants as fault;
 
-use crate::options::{
-    WordsFault, found, matched, number, number_option, reason_of, text, text_option, texts,
-};
+use crate::options::{WordsFault, found, matched, number, reason_of, text, texts};
+use crate::tables::{NODE_OPTIONS, with_options};
 use clap::{ArgMatches, Command, Error};
-use grid_types::{MOST_SLOTS, NodeAddress, Text};
+use grid_types::{NodeAddress, Text};
 use std::alloc::{AllocError, Global};
 
 /// How `grid_node` is called.
@@ -39,15 +38,11 @@ pub struct NodeWords {
 }
 
 fn command<'a>(alloc: Global) -> Result<Command<'a>, AllocError>
-    ensures { IfOk result (λ c. app_of c ≡ node_command) }
+    ensures app { IfOk result (λ c. app_of c ≡ node_command) }
+    ensures simple { IfOk result (λ c. is_simple_and_free (app_of c) ≡ true) }
 {
     let bare = Command::new(alloc, "grid_node").no_binary_name(true);
-    let one = bare.arg(text_option(alloc, "hub"))?;
-    let two = one.arg(number_option(alloc, "port", 1, 65_535))?;
-    let three = two.arg(text_option(alloc, "name"))?;
-    let four = three.arg(text_option(alloc, "browser"))?;
-    let five = four.arg(number_option(alloc, "slots", 1, MOST_SLOTS))?;
-    Ok(five)
+    with_options(alloc, bare, NODE_OPTIONS)
 }
 
 fn told(alloc: Global, matches: &ArgMatches<'_>) -> Result<NodeWords, WordsFault>

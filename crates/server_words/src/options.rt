@@ -1,7 +1,7 @@
 //! Options, what is read of them, and the parse of words.
 ghost use Rattle.std.specs.Prelude.{◌≡◌, ◌≢◌, ◌≤◌, ℕ, IfErr, IfOk, IfSome, IsErrOf, List, Some, [], map, option_map, false, true, pos};
 ghost use Rattle.clap.specs.Words.{HasKind, IsSignedIn, all_of, app_of, fault_of, first_of, found_of, is_simple_and_free, kind_of, matches_of, rows_of, rule_of};
-ghost use Rattle.server_words.specs.Options.{IsTaken, NumbersFit, number_of, number_or, switch_of, text_of, text_or, texts_of, truth_of, truth_or};
+ghost use Rattle.server_words.specs.Options.{IsTaken, NumbersFit, number_of, number_or, rule_with, switch_of, text_of, text_or, texts_of, truth_of, truth_or};
 ghost use Rattle.server_words.specs.declared.options.WordsFault.TheVariants as fault;
 
 use clap::builder::ValueParser;
@@ -41,15 +41,33 @@ impl From<NoMemory> for WordsFault {
     }
 }
 
+/// An option by what it does with a value, and what takes that.
+fn one_option<'a>(
+    alloc: Global,
+    name: &'a str,
+    action: ArgAction,
+    parser: ValueParser<'a>,
+) -> Arg<'a>
+    ensures rule { rule_of result ≡ rule_with name.entry.now action parser.entry }
+    ensures local { result.global ≡ false }
+{
+    Arg::new(alloc, name)
+        .long(name)
+        .action(action)
+        .value_parser(parser)
+}
+
 /// An option with a number between two limits.
 pub fn number_option<'a>(alloc: Global, name: &'a str, least: u32, most: u32) -> Arg<'a>
     ensures rule { rule_of result ≡ number_of name.entry.now least most }
     ensures local { result.global ≡ false }
 {
-    Arg::new(alloc, name)
-        .long(name)
-        .action(ArgAction::Set)
-        .value_parser(ValueParser::Signed(i64::from(least), i64::from(most)))
+    one_option(
+        alloc,
+        name,
+        ArgAction::Set,
+        ValueParser::Signed(i64::from(least), i64::from(most)),
+    )
 }
 
 /// An option with `true` or `false`.
@@ -57,10 +75,7 @@ pub fn truth_option<'a>(alloc: Global, name: &'a str) -> Arg<'a>
     ensures rule { rule_of result ≡ truth_of name.entry.now }
     ensures local { result.global ≡ false }
 {
-    Arg::new(alloc, name)
-        .long(name)
-        .action(ArgAction::Set)
-        .value_parser(ValueParser::Bool)
+    one_option(alloc, name, ArgAction::Set, ValueParser::Bool)
 }
 
 /// An option with any text.
@@ -68,10 +83,7 @@ pub fn text_option<'a>(alloc: Global, name: &'a str) -> Arg<'a>
     ensures rule { rule_of result ≡ text_of name.entry.now }
     ensures local { result.global ≡ false }
 {
-    Arg::new(alloc, name)
-        .long(name)
-        .action(ArgAction::Set)
-        .value_parser(ValueParser::String)
+    one_option(alloc, name, ArgAction::Set, ValueParser::String)
 }
 
 /// An option with any text, which may be set again and again.
@@ -79,10 +91,7 @@ pub fn texts_option<'a>(alloc: Global, name: &'a str) -> Arg<'a>
     ensures rule { rule_of result ≡ texts_of name.entry.now }
     ensures local { result.global ≡ false }
 {
-    Arg::new(alloc, name)
-        .long(name)
-        .action(ArgAction::Append)
-        .value_parser(ValueParser::String)
+    one_option(alloc, name, ArgAction::Append, ValueParser::String)
 }
 
 /// An option with `true` or `false`, which is true where it stands without a value.

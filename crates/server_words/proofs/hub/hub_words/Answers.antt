@@ -8,15 +8,15 @@ use Rattle.server_words.proofs.hub.hub_words.Goals as goal
 pub returns-clause-taken : goal.returns-clause-taken
 returns-clause-taken c =
     let texts = ap (map (λ s. s.now)) c.as_slice.ensures.value ∙ c.in_ok-texts.ensures in
-    taken_as (app_of c.in_ok-command.command) hub_command _ c.args.words.now c.in_ok-command.ensures texts c.in-Ok.ensures.taken
+    taken_as (app_of c.in_ok-command.command) hub_command _ c.args.words.now c.in_ok-command.ensures.app texts c.in-Ok.ensures.taken
 
 pub returns-clause-said : goal.returns-clause-said
 returns-clause-said c =
     let texts = ap (map (λ s. s.now)) c.as_slice.ensures.value ∙ c.in_ok-texts.ensures in
     c.told.ensures.told ∙ ap hub_told (rows_as (app_of c.in_ok-command.command) hub_command _ c.args.words.now (rows_of (found_of c.in-Ok.matches))
-    c.in_ok-command.ensures texts c.in-Ok.ensures.rows)
+    c.in_ok-command.ensures.app texts c.in-Ok.ensures.rows)
 
 pub returns-in-Err-clause-refused : goal.returns-in-Err-clause-refused
 returns-in-Err-clause-refused c = λ refused taken.
     let texts = ap (map (λ s. s.now)) c.as_slice.ensures.value ∙ c.in_ok-texts.ensures in
-    not_taken (app_of c.in_ok-command.command) _ c.args.words.now c.in_ok-command.ensures texts (c.in-Err.ensures.refused (same_fault _ _ refused)) taken
+    not_taken (app_of c.in_ok-command.command) _ c.args.words.now c.in_ok-command.ensures.app texts (c.in-Err.ensures.refused (same_fault _ _ refused)) taken

@@ -10,9 +10,9 @@ pub returns-clause-fits : goal.returns-clause-fits
 returns-clause-fits c =
     let texts = ap (map (λ s. s.now)) c.as_slice.ensures.value ∙ c.in_ok-texts.ensures in
     let rows = rows_as (app_of c.in_ok-command.command) node_command _ c.args.words.now (rows_of (found_of c.in_ok-matches.matches))
-    c.in_ok-command.ensures texts c.in_ok-matches.ensures.rows in
+    c.in_ok-command.ensures.app texts c.in_ok-matches.ensures.rows in
     IfOk-weaker c.told.result _ _
     (λ w h. (
-      taken_as (app_of c.in_ok-command.command) node_command _ c.args.words.now c.in_ok-command.ensures texts c.in_ok-matches.ensures.taken,
+      taken_as (app_of c.in_ok-command.command) node_command _ c.args.words.now c.in_ok-command.ensures.app texts c.in_ok-matches.ensures.taken,
       subst (λ (found : List Row). is_node_address (hub_address found) ≡ true) rows h,
     )) c.told.ensures.address
