@@ -53,8 +53,9 @@ start --session-timeout 10
 "$folder/load" trouble "$at" "$clients" || exit 1
 # Both have a socket for each connection.
 ulimit -n "$(ulimit -H -n)"
-# As in the unit of docs/OPERATING.md: the C library hands large blocks back at once.
+# As in the unit of docs/OPERATING.md: the C library hands large blocks back at once, and keeps no small ones between them.
 export MALLOC_MMAP_THRESHOLD_="${MALLOC_MMAP_THRESHOLD_:-131072}"
+export GLIBC_TUNABLES="${GLIBC_TUNABLES:-glibc.malloc.mxfast=0}"
 status=0
 for load in rest waiting large; do
     start --connections 12000 --session-timeout 600
