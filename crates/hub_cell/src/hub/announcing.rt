@@ -59,7 +59,7 @@ pub(crate) trait Announces: Drop {
     /// What the core has then, so that the call finds its memory.
     ghost ready: { Self → HubCore → Type 0 };
 
-    /// What is so where there is no memory for the items.
+    /// What is so where there is no memory for the items, or for the entry.
     ghost lacks: { Self → HubConfig → List Entry → ℕ → Type 0 };
 
     /// The items that the call publishes.
@@ -74,6 +74,9 @@ pub(crate) trait Announces: Drop {
             (at self.now)).reply ≡ true → ready self.now core.new)) }
         ensures lacks { CoreTells core.old (λ H. (caller : ℕ) → MayCall H caller (call self.now) →
             MayLack result → lacks self.now core.old.config H caller) };
+
+    /// So many bytes at most has what it enters, beside what stands ready.
+    fn weight(&self) -> usize;
 
     /// Makes the call, and tells what it enters behind the piece.
     fn answer(
@@ -120,7 +123,7 @@ pub(crate) fn one_item(alloc: Global, item: Item) -> Result<Items, NoMemory>
     }
 }
 
-/// Makes the call's items pending, where there is memory. A call that publishes nothing needs none.
+/// Makes the call's items pending, where there is memory for them and for its entry. A call that publishes nothing needs none.
 fn prepare<Q: Announces>(grid: &mut Grid, question: &Q, alloc: Global) -> Result<(), NoMemory>
     requires none { pending grid.old.map ≡ [] }
     ensures keeps { CoreKeeps grid.old.core.value grid.new.core.value }
@@ -143,6 +146,9 @@ fn prepare<Q: Announces>(grid: &mut Grid, question: &Q, alloc: Global) -> Result
     let items = question.items(&mut *grid.core, alloc)?;
     if items.items().is_empty() {
         return Ok(());
+    }
+    if grid.piece.reserve(question.weight()).is_err() {
+        return Err(NoMemory);
     }
     match grid.map.append(items) {
         Ok(()) => Ok(()),

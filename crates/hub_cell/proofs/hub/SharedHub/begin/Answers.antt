@@ -13,7 +13,7 @@ resume-requires g c =
       b.start,
       (
         record { core_stands = subst (λ (z : HubCore). Stands z (history_of b.start)) e b.core_stands; map_stands = b.map_stands },
-        record { holds = subst (λ (z : HubCore). Holds z.config b.start (kept_by c.args.keeping)) e b.holds; none_waits = c.new-2.ensures },
+        record { holds = subst (λ (z : HubCore). Holds z.config b.start (kept_by c.args.keeping)) e b.holds; none_waits = c.in-Ok-ready_piece.ensures },
       ),
       b.goes,
     )
