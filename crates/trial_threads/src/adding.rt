@@ -7,7 +7,7 @@ ghost use Rattle.trial_threads.specs.Counts.{Counts, next_of, Adds};
 use crate::counter::Counter;
 use std::marker::Brand;
 use std::sync::Wait;
-use turn_cell::{Haste, Made, Pass, Spent, Turn, TurnCell};
+use turn_cell::{Made, Pass, Spent, Turn, TurnCell};
 
 /// The part of `add` that has the value. Its caller picks the entries by the history that the pass has seen then.
 fn add_in<E: Made>(
@@ -41,7 +41,7 @@ pub fn add<R: Wait>(
     ensures added { IfOk result (λ n. Adds (view_of pass.old) n (view_of pass.new)) }
     ensures spent { IfErr result (λ s. view_of pass.new ≡ looked_once (view_of pass.old)) }
 {
-    let turn = cell.enter(rt, pass, Haste::Patient)?;
+    let turn = cell.enter(rt, pass)?;
     Ok(add_in::<Brand>(cell, turn, pass))
 }
 
@@ -69,7 +69,7 @@ pub fn find_spent<R: Wait>(rt: &R, cell: &TurnCell<Counter>, pass: &mut Pass<Cou
     requires late { 2 ^ 62 ≤ first_of cell.now }
     ensures { result.ticket ≡ first_of cell.now }
 {
-    match cell.enter(rt, pass, Haste::Hurried) {
+    match cell.enter(rt, pass) {
         Err(spent) => spent,
         Ok(_) => unreachable!(),
     }

@@ -11,7 +11,7 @@ use std::alloc::Global;
 use std::sync::Wait;
 use std::test::*;
 use std::thread::Threads;
-use turn_cell::{Haste, Pass, TurnCell};
+use turn_cell::{Pass, TurnCell};
 
 /// Each of the eight ended passes has its hundred entries, and the pass that stays has none.
 fn eight_times_a_hundred<R: Threads + Wait + Sync>(rt: &R, alloc: Global) -> Option<Pass<Counter>>
@@ -44,10 +44,7 @@ fn counts_numbers_and_the_value_at_the_end(rt: HostRuntime) -> Result<(), Fail> 
     let counter = Counter { count: 0, name: 1 };
     let (cell, mut pass) = TurnCell::new(rt.alloc(), counter, 5).ok().ok_or("memory")?;
     assert_eq!(rt; add(&rt, &cell, &mut pass).ok(), Some(1));
-    let turn = cell
-        .enter(&rt, &mut pass, Haste::Hurried)
-        .ok()
-        .ok_or("a turn")?;
+    let turn = cell.enter(&rt, &mut pass).ok().ok_or("a turn")?;
     let mut other = cell.split(turn, &mut pass).ok().ok_or("memory")?;
     // Tickets 5 and 6 were drawn, and the pass was split off in the turn of ticket 6.
     assert_eq!(rt; other.number(), 7);

@@ -10,7 +10,7 @@ use std::alloc::Global;
 use std::sync::Wait;
 use std::thread;
 use std::thread::Threads;
-use turn_cell::{Haste, Pass, Spent, TurnCell};
+use turn_cell::{Pass, Spent, TurnCell};
 
 fn another<R: Wait>(
     rt: &R,
@@ -23,7 +23,7 @@ fn another<R: Wait>(
         × ((view_of pass.new).mine ≡ (view_of pass.old).mine) }
     ensures new { IfSome result (IsNew cell.now) }
 {
-    let turn = cell.enter(rt, pass, Haste::Hurried).ok()?;
+    let turn = cell.enter(rt, pass).ok()?;
     cell.split(turn, pass).ok()
 }
 

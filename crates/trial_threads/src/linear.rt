@@ -2,7 +2,7 @@
 use std::alloc::Global;
 use std::marker::Brand;
 use std::sync::Wait;
-use turn_cell::{Haste, Stands, TurnCell};
+use turn_cell::{Stands, TurnCell};
 
 /// A count that has to be taken apart.
 pub struct Linear {
@@ -23,7 +23,7 @@ impl Stands for Linear {
 pub fn count_of_one_turn<R: Wait>(rt: &R, alloc: Global, first: u64) -> Option<u64> {
     match TurnCell::new(alloc, Linear { count: 0 }, first) {
         Ok((cell, mut pass)) => {
-            if let Ok(turn) = cell.enter(rt, &mut pass, Haste::Patient) {
+            if let Ok(turn) = cell.enter(rt, &mut pass) {
                 cell.leave::<Brand>(turn, &mut pass);
             }
             let Linear { count } = cell.into_value()?;

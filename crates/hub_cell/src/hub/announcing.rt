@@ -27,7 +27,7 @@ use map_view::{Item, Items, MapReader};
 use std::alloc::Global;
 use std::marker::Brand;
 use std::sync::Wait;
-use turn_cell::{Haste, Made, Turn, TurnCell};
+use turn_cell::{Made, Turn, TurnCell};
 
 /// A call of the core that may change the map, with its arguments.
 pub(crate) trait Announces: Drop {
@@ -244,7 +244,7 @@ impl SharedHub {
     {
         // For the proof alone: the caller's other tokens stay good.
         token_laws();
-        match self.cell.enter(rt, &mut pass.inner, Haste::Patient) {
+        match self.cell.enter(rt, &mut pass.inner) {
             Ok(turn) => {
                 match announce_there::<Q, Brand, R>(
                     rt,

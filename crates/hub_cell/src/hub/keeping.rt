@@ -17,7 +17,7 @@ use map_view::MapReader;
 use std::alloc::Global;
 use std::marker::Brand;
 use std::sync::Wait;
-use turn_cell::{Haste, Turn, TurnCell};
+use turn_cell::{Turn, TurnCell};
 
 /// A copy of the bytes.
 fn copied(alloc: Global, bytes: &[u8]) -> Result<Bytes, NoMemory>
@@ -102,7 +102,7 @@ impl SharedHub {
     {
         // For the proof alone: the pass's tokens stay good.
         token_laws();
-        match self.cell.enter(rt, &mut pass.inner, Haste::Patient) {
+        match self.cell.enter(rt, &mut pass.inner) {
             Ok(turn) => {
                 let kept = kept_there(
                     self.alloc,
