@@ -63,6 +63,23 @@ fn value_at<'a>(document: &'a Table, section: &str, key: &str) -> Option<&'a Val
     }
 }
 
+/// Puts a copy of the word behind the others.
+fn put_copy(alloc: Global, word: &str, words: &mut WordList) -> Result<(), NoMemory>
+    ensures { OnOk result (words.new ≡ words.old ++ word.now ∷ []) }
+{
+    words.push(Text::of(alloc, word)?)
+}
+
+/// Puts an option and its value behind the others.
+fn put_pair(alloc: Global, option: &str, value: Text, words: &mut WordList) -> Result<(), NoMemory>
+    ensures { OnOk result (words.new ≡ words.old ++ option.now ∷ value ∷ []) }
+{
+    match put_copy(alloc, option, words) {
+        Ok(()) => words.push(value),
+        Err(fault) => Err(fault),
+    }
+}
+
 /// Puts the option of a row and its value behind the others, where the value is there.
 fn put_words(
     alloc: Global,
@@ -75,10 +92,7 @@ fn put_words(
 {
     match value {
         Some(value) => match word_for(alloc, row.kind, value)? {
-            Some(text) => {
-                words.push(Text::of(alloc, row.option)?)?;
-                words.push(text)
-            }
+            Some(text) => put_pair(alloc, row.option, text, words),
             None => Ok(()),
         },
         None => Ok(()),

@@ -45,9 +45,8 @@ word_cause_of fault.TooLong words h = absurd h
 word_cause_of fault.Capability words h = absurd h
 word_cause_of fault.Memory words h = tt
 
-pub word_cause : (f : AttachFault) (app : App) (found words : List Text) → app ≡ attach_command → found ≡ words → HasWordCause f app found → HasCause f words
-word_cause f app found words is same h =
-    word_cause_of f words (subst (λ (a : App). HasWordCause f a words) is (subst (λ (w : List Text). HasWordCause f app w) same h))
+pub word_cause : (f : AttachFault) (found words : List Text) → found ≡ words → HasWordCause f attach_command found → HasCause f words
+word_cause f found words same h = word_cause_of f words (subst (λ (w : List Text). HasWordCause f attach_command w) same h)
 
 none_among : (k : ErrorKind) (ks : List ErrorKind) → IsAmong k ks → ks ≢ []
 none_among k [] h e = h

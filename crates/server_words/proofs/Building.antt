@@ -19,8 +19,9 @@ with_option app rule c d a so_far added local same = added.shape local ∙ ap₂
 pub all_options : (name : List ℕ) (c d : Command) (rules : List Rule) → app_of c ≡ bare name → app_of d ≡ with_rules (app_of c) rules → app_of d ≡ with_rules (bare name) rules
 all_options name c d rules begun built = built ∙ ap (λ (app : App). with_rules app rules) begun
 
-pub taken_as : (app same : App) (found words : List Text) → app ≡ same → found ≡ words → IsTaken app found → IsTaken same words
-taken_as app same found words e w h = rw (← e, ← w) h
+-- what is known of the words that were lent is known of the words
+pub taken_as : (app : App) (found words : List Text) → found ≡ words → IsTaken app found → IsTaken app words
+taken_as app found words w h = rw (← w) h
 
-pub rows_as : (app same : App) (found words : List Text) (rows : List Row) → app ≡ same → found ≡ words → rows ≡ matches_of app found → rows ≡ matches_of same words
-rows_as app same found words rows e w h = rw (← e, ← w) h
+pub rows_as : (app : App) (found words : List Text) (rows : List Row) → found ≡ words → rows ≡ matches_of app found → rows ≡ matches_of app words
+rows_as app found words rows w h = rw (← w) h

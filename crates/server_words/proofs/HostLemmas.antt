@@ -1,6 +1,6 @@
 -- Which texts write an address.
 use Rattle.std.proofs.Common.{◌≡◌, ◌++◌, ℕ, List, sym, ◌∙◌, subst, inl, inr}
-use Rattle.std.specs.Prelude.{codes}
+use Rattle.std.specs.Prelude.{Err, IfOk, Ok, Result, codes}
 use Rattle.std.specs.Net.Grammar.{IsIpText, IsIpv6Text}
 use Rattle.std.specs.declared.net.ip_addr.IpAddr.{IpAddr}
 use Rattle.std.specs.declared.net.ip_addr.IpAddr.TheVariants as Ip
@@ -24,3 +24,7 @@ pub no_host : (text : List ℕ) → ((ip : IpAddr) → ¬ (IsIpText text ip))
 no_host text plain bracketed (Ip.V4 ip) h = plain (Ip.V4 ip) h
 no_host text plain bracketed (Ip.V6 ip) (inl h) = plain (Ip.V6 ip) h
 no_host text plain bracketed (Ip.V6 ip) (inr h) = bracketed ip h
+
+pub always : {T E : Type 0} (r : Result T E) (P : Type 0) → P → IfOk r (λ _. P)
+always (Ok x) P p = p
+always (Err e) P p = tt

@@ -1,13 +1,13 @@
 -- Words that the hub's command does not take.
-use Rattle.std.proofs.Common.{◌≡◌, ◌≢◌, List, [], ap}
+use Rattle.std.proofs.Common.{◌≡◌, List, ap}
 use Rattle.std.specs.Prelude.{Err, IsErrOf, Ok, Result}
-use Rattle.clap.specs.Words.{App, Text, fault_of}
+use Rattle.clap.specs.Words.{Text}
 use Rattle.server_words.specs.HubOptions.{hub_command}
 use Rattle.server_words.specs.Options.{IsTaken}
 
--- the command that was built does not take the words, so the hub's does not
-pub not_taken : (app : App) (found words : List Text) → app ≡ hub_command → found ≡ words → fault_of app found ≢ [] → IsTaken hub_command words → ⊥
-not_taken app found words e w wrong taken = wrong (rw (e, w) taken)
+-- the words that were lent are not taken, so the words are not
+pub not_taken : (found words : List Text) → found ≡ words → ¬ (IsTaken hub_command found) → IsTaken hub_command words → ⊥
+not_taken found words w wrong taken = wrong (rw w taken)
 
 abbrev fault_or : {T E : Type 0} → E → Result T E → E
 fault_or default (Ok value) = default

@@ -2,7 +2,7 @@
 ghost use Rattle.std.specs.Prelude.{◌≡◌, ◌≢◌, ◌⊎◌, IfErr, IfOk, Some, is_some, map, true};
 ghost use Rattle.clap.specs.Words.{app_of, found_of, is_simple_and_free, kind_of, matches_of, rows_of};
 ghost use Rattle.server_words.specs.Addresses.{bare_address, is_reachable};
-ghost use Rattle.server_words.specs.AttachOptions.{FitsAttach, HasCause, HasValueCause, HasWordCause, TextsFit, are_short, attach_command, attach_driver, attach_hub, attach_own, attach_said, attach_told, is_label, is_short};
+ghost use Rattle.server_words.specs.AttachOptions.{FitsAttach, HasCause, HasValueCause, HasWordCause, TextsFit, are_short, attach_browser, attach_command, attach_driver, attach_hub, attach_name, attach_own, attach_platform, attach_said, attach_told, attach_version, is_label, is_short};
 ghost use Rattle.server_words.specs.Options.{IsTaken, NumbersFit};
 ghost use Rattle.server_words.specs.OwnCapabilities.{own_caps};
 ghost use Rattle.server_words.specs.declared.attach.AttachFault.TheVariants as fault;
@@ -33,7 +33,7 @@ HOST:PORT may have http:// in front and / behind. VALUE is JSON, or else a text.
 ";
 
 /// What the words say.
-#[derive(Debug, Drop)]
+#[derive(Drop)]
 pub struct AttachWords {
     /// Where the hub listens.
     pub hub: NodeAddress,
@@ -56,7 +56,7 @@ pub struct AttachWords {
 }
 
 /// Why words tell nothing.
-#[derive(Debug, Drop)]
+#[derive(Drop)]
 pub enum AttachFault {
     /// The command does not take the words.
     Words(Error),
@@ -181,6 +181,32 @@ fn own(alloc: Global, matches: &ArgMatches<'_>) -> Result<Caps, AttachFault>
     }
 }
 
+/// What the node and its browser are called.
+#[derive(Drop)]
+struct LabelWords {
+    name: Text,
+    browser: Text,
+    version: Text,
+    platform: Text,
+}
+
+fn labels(alloc: Global, matches: &ArgMatches<'_>) -> Result<LabelWords, NoMemory>
+    ensures name { IfOk result (λ l. l.name ≡ attach_name (rows_of (found_of matches.now))) }
+    ensures browser { IfOk result (λ l. l.browser
+        ≡ attach_browser (rows_of (found_of matches.now))) }
+    ensures version { IfOk result (λ l. l.version
+        ≡ attach_version (rows_of (found_of matches.now))) }
+    ensures platform { IfOk result (λ l. l.platform
+        ≡ attach_platform (rows_of (found_of matches.now))) }
+{
+    Ok(LabelWords {
+        name: Text::of(alloc, text(matches, "name", "driver"))?,
+        browser: Text::of(alloc, text(matches, "browser", "chrome"))?,
+        version: Text::of(alloc, text(matches, "browser-version", ""))?,
+        platform: Text::of(alloc, text(matches, "platform", "linux"))?,
+    })
+}
+
 fn told(alloc: Global, matches: &ArgMatches<'_>) -> Result<AttachWords, AttachFault>
     requires { NumbersFit attach_command (rows_of (found_of matches.now)) }
     ensures told { IfOk result (λ w. w ≡ attach_told (rows_of (found_of matches.now))) }
@@ -201,13 +227,16 @@ fn told(alloc: Global, matches: &ArgMatches<'_>) -> Result<AttachWords, AttachFa
     };
     texts_fit(matches)?;
     let own = own(alloc, matches)?;
+    let Ok(called) = labels(alloc, matches) else {
+        return Err(AttachFault::Memory);
+    };
     Ok(AttachWords {
         hub,
         driver,
-        name: Text::of(alloc, text(matches, "name", "driver"))?,
-        browser: Text::of(alloc, text(matches, "browser", "chrome"))?,
-        version: Text::of(alloc, text(matches, "browser-version", ""))?,
-        platform: Text::of(alloc, text(matches, "platform", "linux"))?,
+        name: called.name,
+        browser: called.browser,
+        version: called.version,
+        platform: called.platform,
         slots: number(matches, "slots", 1) as u16,
         own,
         once: truth(matches, "once", false),
@@ -226,16 +255,17 @@ fn fault_for(error: Error) -> AttachFault
 }
 
 /// What the command finds in the words.
-fn found<'a>(command: Command<'a>, words: &'a [&'a str]) -> Result<ArgMatches<'a>, AttachFault>
-    requires { is_simple_and_free (app_of command) ≡ true }
-    ensures taken { IfOk result (λ _. IsTaken (app_of command.entry)
-        (map (λ s. s.now) words.entry.now)) }
+fn found<'a>(alloc: Global, words: &'a [&'a str]) -> Result<ArgMatches<'a>, AttachFault>
+    ensures taken { IfOk result (λ _. IsTaken attach_command (map (λ s. s.now) words.entry.now)) }
     ensures rows { IfOk result (λ m. rows_of (found_of m)
-        ≡ matches_of (app_of command.entry) (map (λ s. s.now) words.entry.now)) }
-    ensures numbers { IfOk result (λ m. NumbersFit (app_of command.entry) (rows_of (found_of m))) }
-    ensures why { IfErr result (λ f. HasWordCause f (app_of command.entry)
+        ≡ matches_of attach_command (map (λ s. s.now) words.entry.now)) }
+    ensures numbers { IfOk result (λ m. NumbersFit attach_command (rows_of (found_of m))) }
+    ensures why { IfErr result (λ f. HasWordCause f attach_command
         (map (λ s. s.now) words.entry.now)) }
 {
+    let Ok(command) = command(alloc) else {
+        return Err(AttachFault::Memory);
+    };
     match matched(command, words) {
         Ok(matches) => Ok(matches),
         Err(error) => Err(fault_for(error)),
@@ -250,8 +280,7 @@ pub fn attach_words(alloc: Global, words: &[Text]) -> Result<AttachWords, Attach
     ensures why { IfErr result (λ f. HasCause f words.now) }
     ensures refused { IfErr result (λ f. f ≢ fault.Memory → ¬ (FitsAttach words.now)) }
 {
-    let command = command(alloc)?;
     let texts = texts(alloc, words)?;
-    let matches = found(command, texts.as_slice())?;
+    let matches = found(alloc, texts.as_slice())?;
     told(alloc, &matches)
 }

@@ -1,14 +1,15 @@
 //! The address that the hub's program listens at.
 ghost use Rattle.std.specs.Prelude.{◌≡◌, ◌≢◌, ◌++◌, ℕ, IfOk, IsErrOf, List, MatchOption, codes};
 ghost use Rattle.std.specs.declared.net.ip_addr.IpAddr.{IpAddr};
-ghost use Rattle.clap.specs.Words.{app_of, found_of, rows_of};
-ghost use Rattle.server_words.specs.Hosts.{IsBracketed, IsHostText, TellsHost, host_said};
+ghost use Rattle.clap.specs.Words.{found_of, rows_of};
+ghost use Rattle.server_words.specs.Hosts.{IsBracketed, IsHostText, TellsHost, host_said, host_told};
 ghost use Rattle.server_words.specs.HubOptions.{hub_command};
 ghost use Rattle.server_words.specs.Options.{IsTaken};
 ghost use Rattle.server_words.specs.declared.options.WordsFault.TheVariants as fault;
 
-use crate::hub::command;
-use crate::options::{WordsFault, found, text, texts};
+use crate::hub::hub_matches;
+use crate::options::{WordsFault, text, texts};
+use clap::ArgMatches;
 use grid_types::Text;
 use std::alloc::Global;
 use std::net::{IpAddr, Ipv6Addr};
@@ -50,20 +51,27 @@ fn host_in(text: &[u8]) -> Option<IpAddr>
     }
 }
 
+/// The address that what the words set the options to writes.
+fn host_told(matches: &ArgMatches<'_>) -> Result<IpAddr, WordsFault>
+    ensures said { IfOk result (IsHostText (host_told (rows_of (found_of matches.now)))) }
+    ensures refused { IsErrOf result fault.Refused
+        → (ip : IpAddr) → ¬ (IsHostText (host_told (rows_of (found_of matches.now))) ip) }
+{
+    match host_in(text(matches, "host", "0.0.0.0").as_bytes()) {
+        Some(ip) => Ok(ip),
+        None => Err(WordsFault::Refused),
+    }
+}
+
 /// Where the words of the hub's program have it listen: at all IPv4 addresses of the machine, unless they name another.
 pub fn hub_host(alloc: Global, words: &[Text]) -> Result<IpAddr, WordsFault>
     ensures taken { IfOk result (λ _. IsTaken hub_command words.now) }
     ensures said { IfOk result (IsHostText (host_said words.now)) }
     ensures refused { IsErrOf result fault.Refused → ¬ (TellsHost words.now) }
 {
-    let command = command(alloc)?;
     let texts = texts(alloc, words)?;
-    let matches = match found(command, texts.as_slice()) {
-        Ok(matches) => matches,
-        Err(fault) => return Err(fault),
-    };
-    match host_in(text(&matches, "host", "0.0.0.0").as_bytes()) {
-        Some(ip) => Ok(ip),
-        None => Err(WordsFault::Refused),
+    match hub_matches(alloc, texts.as_slice()) {
+        Ok(matches) => host_told(&matches),
+        Err(fault) => Err(fault),
     }
 }

@@ -1,16 +1,16 @@
 //! The words of the hub's program.
-ghost use Rattle.std.specs.Prelude.{◌≡◌, IfOk, IsErrOf, true};
+ghost use Rattle.std.specs.Prelude.{◌≡◌, IfOk, IsErrOf, map, true};
 ghost use Rattle.grid_types.specs.Config.{IsValid};
-ghost use Rattle.clap.specs.Words.{app_of, found_of, is_simple_and_free, rows_of};
+ghost use Rattle.clap.specs.Words.{app_of, found_of, is_simple_and_free, matches_of, rows_of};
 ghost use Rattle.server_words.specs.HubOptions.{AreWithin, hub_command, hub_said, hub_told};
 ghost use Rattle.server_words.specs.Options.{IsTaken, NumbersFit};
 ghost use Rattle.server_words.specs.declared.options.WordsFault.TheVariants as fault;
 
 use crate::host::hub_host;
 use crate::journal::hub_journal;
-use crate::options::{WordsFault, found, matched, number, reason_of, texts, truth};
+use crate::options::{WordsFault, found, number, refusal_by, texts, truth};
 use crate::tables::{HUB_OPTIONS, with_options};
-use clap::{ArgMatches, Command, Error};
+use clap::{ArgMatches, Command};
 use grid_types::{HubConfig, MOST_REQUESTS, Text};
 use std::alloc::{AllocError, Global};
 
@@ -31,7 +31,7 @@ usage: grid_hub [OPTION VALUE]...
 ";
 
 /// What the words of the hub's program say.
-#[derive(Clone, Copy, Debug)]
+#[derive(Clone, Copy)]
 pub struct HubWords {
     /// The TCP port to listen at.
     pub port: u16,
@@ -51,6 +51,24 @@ pub(crate) fn command<'a>(alloc: Global) -> Result<Command<'a>, AllocError>
 {
     let bare = Command::new(alloc, "grid_hub").no_binary_name(true);
     with_options(alloc, bare, HUB_OPTIONS)
+}
+
+/// What the hub's command finds in the words.
+pub(crate) fn hub_matches<'a>(
+    alloc: Global,
+    words: &'a [&'a str],
+) -> Result<ArgMatches<'a>, WordsFault>
+    ensures taken { IfOk result (λ _. IsTaken hub_command (map (λ s. s.now) words.entry.now)) }
+    ensures rows { IfOk result (λ m. rows_of (found_of m)
+        ≡ matches_of hub_command (map (λ s. s.now) words.entry.now)) }
+    ensures numbers { IfOk result (λ m. NumbersFit hub_command (rows_of (found_of m))) }
+    ensures refused { IsErrOf result fault.Refused
+        → ¬ (IsTaken hub_command (map (λ s. s.now) words.entry.now)) }
+{
+    match command(alloc) {
+        Ok(command) => found(command, words),
+        Err(_) => Err(WordsFault::Memory),
+    }
 }
 
 fn config(matches: &ArgMatches<'_>) -> HubConfig
@@ -91,20 +109,19 @@ pub fn hub_words(alloc: Global, words: &[Text]) -> Result<HubWords, WordsFault>
     ensures within { IfOk result (λ w. AreWithin w) }
     ensures refused { IsErrOf result fault.Refused → ¬ (IsTaken hub_command words.now) }
 {
-    let command = command(alloc)?;
     let texts = texts(alloc, words)?;
-    let matches = match found(command, texts.as_slice()) {
-        Ok(matches) => matches,
-        Err(fault) => return Err(fault),
-    };
-    Ok(told(&matches))
+    match hub_matches(alloc, texts.as_slice()) {
+        Ok(matches) => Ok(told(&matches)),
+        Err(fault) => Err(fault),
+    }
 }
 
-/// What `clap` says of the words, where it doesn't take them.
-fn refusal(alloc: Global, words: &[Text]) -> Result<Option<Error>, AllocError> {
-    let command = command(alloc)?;
-    let texts = texts(alloc, words)?;
-    Ok(matched(command, texts.as_slice()).err())
+/// Why the hub's command doesn't take the words, where it doesn't.
+fn refusal(alloc: Global, words: &[Text]) -> Result<(), Option<String>> {
+    match texts(alloc, words) {
+        Ok(texts) => refusal_by(alloc, command(alloc), texts.as_slice()),
+        Err(_) => Err(None),
+    }
 }
 
 /// Which value the command takes and the program doesn't.
@@ -121,8 +138,8 @@ fn value_reason(alloc: Global, words: &[Text]) -> Option<&'static str> {
 /// What is wrong with words that the hub's program refuses, in one line for whoever called it. None where
 /// they are taken, and where there is no memory to say it.
 pub fn hub_reason(alloc: Global, words: &[Text]) -> Option<String> {
-    match refusal(alloc, words).ok()? {
-        Some(error) => reason_of(alloc, &error),
-        None => String::from_str(alloc, value_reason(alloc, words)?).ok(),
+    match refusal(alloc, words) {
+        Ok(()) => String::from_str(alloc, value_reason(alloc, words)?).ok(),
+        Err(reason) => reason,
     }
 }

@@ -2,17 +2,17 @@
 ghost use Rattle.std.specs.Prelude.{◌≡◌, IfOk, IsErrOf, MatchOption, codes, false, true};
 ghost use Rattle.std.specs.Str.{bytes_eq};
 ghost use Rattle.clap.specs.Words.{first_of, found_of, rows_of};
-ghost use Rattle.server_words.specs.Journals.{TellsJournal, file_said, is_sync, sync_said};
+ghost use Rattle.server_words.specs.Journals.{TellsJournal, file_said, file_told, is_sync, sync_said, sync_told};
 ghost use Rattle.server_words.specs.declared.options.WordsFault.TheVariants as fault;
 
-use crate::hub::command;
-use crate::options::{WordsFault, found, set, text, texts};
+use crate::hub::hub_matches;
+use crate::options::{WordsFault, set, text, texts};
 use clap::ArgMatches;
 use grid_types::Text;
 use std::alloc::Global;
 
 /// What the words of the hub's program say of its journal.
-#[derive(Debug, Drop)]
+#[derive(Drop)]
 pub struct JournalWords {
     /// The path of its file. None: the hub keeps no journal.
     pub file: Option<Text>,
@@ -45,6 +45,24 @@ fn copied(alloc: Global, matches: &ArgMatches<'_>, name: &str) -> Result<Option<
     }
 }
 
+/// The journal that what the words set the options to asks for.
+fn journal_told(alloc: Global, matches: &ArgMatches<'_>) -> Result<JournalWords, WordsFault>
+    ensures sync { IfOk result (λ _. is_sync (sync_told (rows_of (found_of matches.now))) ≡ true) }
+    ensures file { IfOk result (λ told. told.file ≡ file_told (rows_of (found_of matches.now))) }
+    ensures each { IfOk result (λ told. told.each
+        ≡ bytes_eq (sync_told (rows_of (found_of matches.now))) (codes "each")) }
+    ensures refused { IsErrOf result fault.Refused
+        → is_sync (sync_told (rows_of (found_of matches.now))) ≡ false }
+{
+    let Some(each) = each_in(text(matches, "journal-sync", "second")) else {
+        return Err(WordsFault::Refused);
+    };
+    match copied(alloc, matches, "journal") {
+        Ok(file) => Ok(JournalWords { file, each }),
+        Err(fault) => Err(fault),
+    }
+}
+
 /// The journal that the words of the hub's program ask for: none, unless they name a file, which is synced each second unless they
 /// say otherwise.
 pub fn hub_journal(alloc: Global, words: &[Text]) -> Result<JournalWords, WordsFault>
@@ -53,15 +71,9 @@ pub fn hub_journal(alloc: Global, words: &[Text]) -> Result<JournalWords, WordsF
     ensures each { IfOk result (λ told. told.each ≡ bytes_eq (sync_said words.now) (codes "each")) }
     ensures refused { IsErrOf result fault.Refused → ¬ (TellsJournal words.now) }
 {
-    let command = command(alloc)?;
     let texts = texts(alloc, words)?;
-    let matches = match found(command, texts.as_slice()) {
-        Ok(matches) => matches,
-        Err(fault) => return Err(fault),
-    };
-    let file = copied(alloc, &matches, "journal")?;
-    match each_in(text(&matches, "journal-sync", "second")) {
-        Some(each) => Ok(JournalWords { file, each }),
-        None => Err(WordsFault::Refused),
+    match hub_matches(alloc, texts.as_slice()) {
+        Ok(matches) => journal_told(alloc, &matches),
+        Err(fault) => Err(fault),
     }
 }

@@ -1,14 +1,14 @@
 //! The words of the node's program.
-ghost use Rattle.std.specs.Prelude.{◌≡◌, IfOk, IsErrOf, false, true};
-ghost use Rattle.clap.specs.Words.{app_of, found_of, is_simple_and_free, rows_of};
+ghost use Rattle.std.specs.Prelude.{◌≡◌, IfOk, IsErrOf, false, map, true};
+ghost use Rattle.clap.specs.Words.{app_of, found_of, is_simple_and_free, matches_of, rows_of};
 ghost use Rattle.grid_types.specs.Names.{is_node_address};
 ghost use Rattle.server_words.specs.NodeOptions.{FitsNode, hub_address, node_command, node_said, node_told};
-ghost use Rattle.server_words.specs.Options.{NumbersFit};
+ghost use Rattle.server_words.specs.Options.{IsTaken, NumbersFit};
 ghost use Rattle.server_words.specs.declared.options.WordsFault.TheVariants as fault;
 
-use crate::options::{WordsFault, found, matched, number, reason_of, text, texts};
+use crate::options::{WordsFault, found, number, refusal_by, text, texts};
 use crate::tables::{NODE_OPTIONS, with_options};
-use clap::{ArgMatches, Command, Error};
+use clap::{ArgMatches, Command};
 use grid_types::{NodeAddress, Text};
 use std::alloc::{AllocError, Global};
 
@@ -23,7 +23,7 @@ usage: grid_node [OPTION VALUE]...
 ";
 
 /// What the words of the node's program say.
-#[derive(Debug, Drop)]
+#[derive(Drop)]
 pub struct NodeWords {
     /// Where the hub listens.
     pub hub: NodeAddress,
@@ -43,6 +43,21 @@ fn command<'a>(alloc: Global) -> Result<Command<'a>, AllocError>
 {
     let bare = Command::new(alloc, "grid_node").no_binary_name(true);
     with_options(alloc, bare, NODE_OPTIONS)
+}
+
+/// What the node's command finds in the words.
+fn node_matches<'a>(alloc: Global, words: &'a [&'a str]) -> Result<ArgMatches<'a>, WordsFault>
+    ensures taken { IfOk result (λ _. IsTaken node_command (map (λ s. s.now) words.entry.now)) }
+    ensures rows { IfOk result (λ m. rows_of (found_of m)
+        ≡ matches_of node_command (map (λ s. s.now) words.entry.now)) }
+    ensures numbers { IfOk result (λ m. NumbersFit node_command (rows_of (found_of m))) }
+    ensures refused { IsErrOf result fault.Refused
+        → ¬ (IsTaken node_command (map (λ s. s.now) words.entry.now)) }
+{
+    match command(alloc) {
+        Ok(command) => found(command, words),
+        Err(_) => Err(WordsFault::Memory),
+    }
 }
 
 fn told(alloc: Global, matches: &ArgMatches<'_>) -> Result<NodeWords, WordsFault>
@@ -73,30 +88,30 @@ pub fn node_words(alloc: Global, words: &[Text]) -> Result<NodeWords, WordsFault
     ensures said { IfOk result (λ w. w ≡ node_said words.now) }
     ensures refused { IsErrOf result fault.Refused → ¬ (FitsNode words.now) }
 {
-    let command = command(alloc)?;
     let texts = texts(alloc, words)?;
-    let matches = found(command, texts.as_slice())?;
+    let matches = node_matches(alloc, texts.as_slice())?;
     told(alloc, &matches)
 }
 
-/// What `clap` says of the words, where it doesn't take them.
-fn refusal(alloc: Global, words: &[Text]) -> Result<Option<Error>, AllocError> {
-    let command = command(alloc)?;
-    let texts = texts(alloc, words)?;
-    Ok(matched(command, texts.as_slice()).err())
+/// Why the node's command doesn't take the words, where it doesn't.
+fn refusal(alloc: Global, words: &[Text]) -> Result<(), Option<String>> {
+    match texts(alloc, words) {
+        Ok(texts) => refusal_by(alloc, command(alloc), texts.as_slice()),
+        Err(_) => Err(None),
+    }
 }
 
 /// What is wrong with words that the node's program refuses, in one line for whoever called it. None where
 /// they are taken, and where there is no memory to say it.
 pub fn node_reason(alloc: Global, words: &[Text]) -> Option<String> {
-    match refusal(alloc, words).ok()? {
-        Some(error) => reason_of(alloc, &error),
+    match refusal(alloc, words) {
         // What the command takes and the program doesn't is the hub's address.
-        None => match node_words(alloc, words) {
+        Ok(()) => match node_words(alloc, words) {
             Err(WordsFault::Refused) => {
                 String::from_str(alloc, "the value of --hub is no address").ok()
             }
             _ => None,
         },
+        Err(reason) => reason,
     }
 }

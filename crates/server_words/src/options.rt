@@ -140,10 +140,30 @@ pub fn matched<'a>(command: Command<'a>, words: &'a [&'a str]) -> Result<ArgMatc
 }
 
 /// What is wrong with the words, in the first line of what `clap` says; the rest of that is of its own form.
-pub fn reason_of(alloc: Global, error: &Error) -> Option<String> {
+fn first_reason(text: &str) -> Option<&str> {
+    text.lines().next()?.strip_prefix("error: ")
+}
+
+fn reason_of(alloc: Global, error: &Error) -> Option<String> {
     let text = format!(in alloc; "{error}").ok()?;
-    let line = text.lines().next()?;
-    String::from_str(alloc, line.strip_prefix("error: ")?).ok()
+    String::from_str(alloc, first_reason(text.as_str())?).ok()
+}
+
+/// Why the command doesn't take the words, where it doesn't: None where there is no memory to say it.
+pub fn refusal_by<'a>(
+    alloc: Global,
+    command: Result<Command<'a>, AllocError>,
+    words: &'a [&'a str],
+) -> Result<(), Option<String>>
+    requires { IfOk command (λ c. is_simple_and_free (app_of c) ≡ true) }
+{
+    let Ok(command) = command else {
+        return Err(None);
+    };
+    match matched(command, words) {
+        Ok(_) => Ok(()),
+        Err(error) => Err(reason_of(alloc, &error)),
+    }
 }
 
 /// What the command finds in the words.

@@ -122,9 +122,9 @@ pub(crate) fn with_options<'a>(
 {
     match rows {
         [] => Ok(command),
-        [row, others @ ..] => {
-            let more = with_row(alloc, command, row)?;
-            with_options(alloc, more, others)
-        }
+        [row, others @ ..] => match with_row(alloc, command, row) {
+            Ok(more) => with_options(alloc, more, others),
+            Err(error) => Err(error),
+        },
     }
 }

@@ -1,38 +1,41 @@
 //! Rows that can't be made again.
-use crate::again::sure;
 use grid_keeper::{KeptHub, OpenFault};
 use grid_types::HubConfig;
-use row_keeper::Keeper;
+use row_keeper::{Keeper, MemKeeper};
 use std::alloc::Global;
 
-/// Why no hub is made of the rows.
-fn refused(alloc: Global, rows: &[&[u8]]) -> Option<OpenFault> {
-    let mut keeper = sure(alloc);
-    for row in rows {
-        keeper.keep(row).ok()?;
-    }
+/// Rows that no call kept.
+const ROWS: &[&[u8]] = &[
+    &[99],
+    &[],
+    // An expiry that finds no idle session makes no entry.
+    &[14, 0, 0, 0, 0, 0, 0, 0, 1],
+    // A poll without a ticket.
+    &[6, 0, 0, 0, 0, 0, 0, 0, 1, 0, 0, 0, 0, 0, 0, 0, 1],
+    // A slot that is not closing.
+    &[12, 0, 0, 0, 1, 0, 0],
+];
+
+/// Whether no hub is made of the keeper's rows, since the first is bad.
+fn is_refused(alloc: Global, keeper: MemKeeper) -> bool {
     match KeptHub::open(alloc, HubConfig::default(), keeper) {
-        Ok(_) => None,
-        Err((fault, _)) => Some(fault),
+        Ok(_) => false,
+        Err((fault, _)) => fault == OpenFault::BadRow { index: 0 },
+    }
+}
+
+fn is_bad(alloc: Global, row: &[u8]) -> bool {
+    let mut keeper = MemKeeper::new(alloc, Vec::new(alloc));
+    match keeper.keep(row) {
+        Ok(()) => is_refused(alloc, keeper),
+        Err(_) => false,
     }
 }
 
 #[test]
 fn a_row_that_cannot_be_made_again_is_told(rt: HostRuntime) {
-    let alloc = rt.alloc();
-    let bad = Some(OpenFault::BadRow { index: 0 });
-    assert!(rt; refused(alloc, &[&[99]]) == bad);
-    assert!(rt; refused(alloc, &[&[]]) == bad);
-    // An expiry that finds no idle session makes no entry.
-    assert!(rt; refused(alloc, &[&[14, 0, 0, 0, 0, 0, 0, 0, 1]]) == bad);
-    // A poll without a ticket.
-    assert!(rt;
-        refused(
-            alloc,
-            &[&[6, 0, 0, 0, 0, 0, 0, 0, 1, 0, 0, 0, 0, 0, 0, 0, 1]]
-        ) == bad
-    );
-    // A slot that is not closing.
-    assert!(rt; refused(alloc, &[&[12, 0, 0, 0, 1, 0, 0]]) == bad);
-    assert!(rt; refused(alloc, &[]) == None);
+    for row in ROWS {
+        let bad = is_bad(rt.alloc(), row);
+        assert!(rt; bad, "{}", row.len());
+    }
 }

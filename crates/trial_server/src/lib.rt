@@ -4,6 +4,8 @@
 #[cfg(test)]
 mod configured;
 #[cfg(test)]
+mod examples;
+#[cfg(test)]
 mod gates;
 #[cfg(test)]
 mod held;
@@ -15,5 +17,7 @@ mod loopback;
 mod starting;
 #[cfg(test)]
 mod tests;
+#[cfg(test)]
+mod texts;
 #[cfg(test)]
 mod ticking;

@@ -27,8 +27,8 @@ returns-clause-driver c =
 
 pub returns-clause-told : goal.returns-clause-told
 returns-clause-told c =
-    told_as (rows_of (found_of c.args.matches.now)) c.in-Some.hub c.in-Some-address_in.driver c.in_ok-of.field-0 c.in_ok-of-2.field-0 c.in_ok-of-3.field-0 c.in_ok-of-4.field-0
+    told_as (rows_of (found_of c.args.matches.now)) c.in-Some.hub c.in-Some-address_in.driver c.in-Ok.called.name c.in-Ok.called.browser c.in-Ok.called.version c.in-Ok.called.platform
     c.number.result c.in_ok-own.own c.truth.result
     (c.in-Some.ensures.some ∙ ap bare_address c.text.ensures) (c.in-Some-address_in.ensures.some ∙ ap bare_address c.text-2.ensures)
-    (c.in_ok-of.ensures ∙ c.text-3.ensures) (c.in_ok-of-2.ensures ∙ c.text-4.ensures) (c.in_ok-of-3.ensures ∙ c.text-5.ensures) (c.in_ok-of-4.ensures ∙ c.text-6.ensures)
+    c.in-Ok.ensures.name c.in-Ok.ensures.browser c.in-Ok.ensures.version c.in-Ok.ensures.platform
     c.number.ensures.value c.in_ok-own.ensures.ok c.truth.ensures

@@ -1,33 +1,33 @@
 use Rattle.std.proofs.Common.{◌≡◌, ℕ, List, ap, map, subst, sym, ◌∙◌}
-use Rattle.clap.specs.Words.{app_of, found_of, rows_of}
+use Rattle.std.proofs.lemmas.Result.{IfOk-weaker}
+use Rattle.clap.specs.Words.{found_of, rows_of}
 use Rattle.server_words.specs.Hosts.{IsHostText, host_said, host_told}
 use Rattle.server_words.specs.HubOptions.{hub_command}
 use Rattle.server_words.proofs.Building.{rows_as, taken_as}
+use Rattle.server_words.proofs.HostLemmas.{always}
 use Rattle.server_words.proofs.RefusalLemmas.{not_taken, same_fault}
 use Rattle.server_words.proofs.host.hub_host.Goals as goal
 
-pub returns-in-Some-clause-taken : goal.returns-in-Some-clause-taken
-returns-in-Some-clause-taken c =
+pub returns-in-Ok-clause-taken : goal.returns-in-Ok-clause-taken
+returns-in-Ok-clause-taken c =
     let texts = ap (map (λ s. s.now)) c.as_slice.ensures.value ∙ c.in_ok-texts.ensures in
-    taken_as (app_of c.in_ok-command.command) hub_command _ c.args.words.now c.in_ok-command.ensures.app texts c.in-Ok.ensures.taken
+    always c.host_told.result _ (taken_as hub_command _ c.args.words.now texts c.in-Ok.ensures.taken)
 
-pub returns-in-Some-clause-said : goal.returns-in-Some-clause-said
-returns-in-Some-clause-said c =
+pub returns-in-Ok-clause-said : goal.returns-in-Ok-clause-said
+returns-in-Ok-clause-said c =
     let texts = ap (map (λ s. s.now)) c.as_slice.ensures.value ∙ c.in_ok-texts.ensures in
-    let rows = rows_as (app_of c.in_ok-command.command) hub_command _ c.args.words.now (rows_of (found_of c.in-Ok.matches))
-    c.in_ok-command.ensures.app texts c.in-Ok.ensures.rows in
-    let written : c.as_bytes.result.now ≡ host_said c.args.words.now = c.as_bytes.ensures.value ∙ c.text.ensures ∙ ap host_told rows in
-    subst (λ (text : List ℕ). IsHostText text c.in-Some.ip) written c.in-Some.ensures
+    let rows = rows_as hub_command _ c.args.words.now (rows_of (found_of c.in-Ok.matches)) texts c.in-Ok.ensures.rows in
+    let written : host_told (rows_of (found_of c.in-Ok.matches)) ≡ host_said c.args.words.now = ap host_told rows in
+    IfOk-weaker c.host_told.result _ _ (λ ip h. subst (λ (text : List ℕ). IsHostText text ip) written h) c.host_told.ensures.said
 
-pub returns-in-Err-clause-refused : goal.returns-in-Err-clause-refused
-returns-in-Err-clause-refused c = λ refused tells.
+pub returns-in-Ok-clause-refused : goal.returns-in-Ok-clause-refused
+returns-in-Ok-clause-refused c = λ refused tells.
     let texts = ap (map (λ s. s.now)) c.as_slice.ensures.value ∙ c.in_ok-texts.ensures in
-    not_taken (app_of c.in_ok-command.command) _ c.args.words.now c.in_ok-command.ensures.app texts (c.in-Err.ensures.refused (same_fault _ _ refused)) tells.taken
+    let rows = rows_as hub_command _ c.args.words.now (rows_of (found_of c.in-Ok.matches)) texts c.in-Ok.ensures.rows in
+    let written : host_told (rows_of (found_of c.in-Ok.matches)) ≡ host_said c.args.words.now = ap host_told rows in
+    c.host_told.ensures.refused refused tells.ip (subst (λ (text : List ℕ). IsHostText text tells.ip) (sym written) tells.written)
 
 pub returns-clause-refused : goal.returns-clause-refused
-returns-clause-refused c = λ _ tells.
+returns-clause-refused c = λ refused tells.
     let texts = ap (map (λ s. s.now)) c.as_slice.ensures.value ∙ c.in_ok-texts.ensures in
-    let rows = rows_as (app_of c.in_ok-command.command) hub_command _ c.args.words.now (rows_of (found_of c.in-Ok.matches))
-    c.in_ok-command.ensures.app texts c.in-Ok.ensures.rows in
-    let written : c.as_bytes.result.now ≡ host_said c.args.words.now = c.as_bytes.ensures.value ∙ c.text.ensures ∙ ap host_told rows in
-    c.in-None.ensures tells.ip (subst (λ (text : List ℕ). IsHostText text tells.ip) (sym written) tells.written)
+    not_taken _ c.args.words.now texts (c.in-Err.ensures.refused (same_fault _ _ refused)) tells.taken
