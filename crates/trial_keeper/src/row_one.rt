@@ -81,23 +81,28 @@ fn played(alloc: Global, words: &[Text], asked: Bytes, keeper: MemKeeper) -> (u8
 }
 
 /// Whether the session is live, and bound by the first request.
-fn is_bound<K: Keeper>(hub: &KeptHub<K>, session: SessionId) -> bool
+fn is_bound<K: Keeper>(hub: &KeptHub<K>) -> bool
     requires { IsOpen K.disk hub.now }
 {
+    let Some(session) = SessionId::from_bytes(b"00000000-0000-0001-0000-000000000001") else {
+        return false;
+    };
     match hub.lookup(&session) {
         Found::At { binding, .. } => binding == 1,
         Found::NoSession => false,
     }
 }
 
-/// Whether the tokens that are open can be spent.
-fn settles<K: Keeper>(alloc: Global, hub: &mut KeptHub<K>, left: Left) -> bool
+/// Whether a session that the client was told of is bound, and the tokens that are open can be spent.
+fn is_whole<K: Keeper>(alloc: Global, hub: &mut KeptHub<K>, left: Left, told: bool) -> bool
     requires open { IsOpen K.disk hub.old }
     requires left { HoldsAll (past hub.old.hub) left }
 {
+    let due = is_bound(hub) || !told;
     let mut nodes = MemNodes::new(alloc, Vec::new(alloc));
     let mut clock = MemClock::new(Moment(10));
-    settle(alloc, hub, left, &mut nodes, &mut clock).is_ok()
+    let settled = settle(alloc, hub, left, &mut nodes, &mut clock).is_ok();
+    due && settled
 }
 
 /// A hub over the keeper's rows.
@@ -113,14 +118,10 @@ fn opened<K: Keeper + Drop>(alloc: Global, keeper: K) -> Option<(KeptHub<K>, Lef
 
 /// Whether a hub is made again of the rows, where a session that the client was told of is found.
 fn is_found(alloc: Global, keeper: MemKeeper, told: bool) -> bool {
-    let Some(session) = SessionId::from_bytes(b"00000000-0000-0001-0000-000000000001") else {
-        return false;
-    };
     match opened(alloc, keeper) {
         Some((hub, left)) => {
             let mut hub = hub;
-            let bound = is_bound(&hub, session);
-            settles(alloc, &mut hub, left) && (bound || !told)
+            is_whole(alloc, &mut hub, left, told)
         }
         None => false,
     }
