@@ -1,82 +1,92 @@
 //! How a log ends.
-use crate::changes::beaten;
-use crate::logs::{head, log, put};
-use grid_types::{Entry, NoMemory};
+use crate::logs::{FIRST, Run, goes};
 use std::alloc::Global;
-use std::test::Fail;
 
-/// The first line as text, and what stands before the seventh piece of it.
-const FIRST: &[u8] = b"# moments are milliseconds since the hub's clock began\n";
+/// The journal of a suspicion that is over, of which nothing is told: 57 bytes are the head, 21 the entry. Behind it stand nine bytes
+/// that begin no entry.
+const WORSE: &[u8] =
+    b"GRIDJ001\0\0\0\0\0\x04\x93\xe0\0\0\0\0\0\x04\x93\xe0\0\0\0\0\0\x01\xd4\xc0\0\0'\x10\0\0\0\0\x01\0\0\0\0\0\0\0\x01\0\0\0\0\0\x03\xa9\x80\0\0\0\0\0\0\0\x03\x02\0\0\0\x01\0\0\0\0\0\0\0\x05\0\0\0\0\0\0\0\0\x11";
 
-/// The journal of a suspicion that is over, and how many bytes of it are the head: nothing is told of it.
-fn journal(alloc: Global) -> Result<Vec<u8>, Fail> {
-    let mut journal = head(alloc)?;
-    let change = beaten(1, 5).ok_or(NoMemory)?;
-    put(alloc, &mut journal, &Entry { caller: 3, change })?;
-    Ok(journal)
+/// A text that is no journal.
+const OTHER: &[u8] = b"GRIDJ002";
+
+/// What fails, and what comes of the first bytes, so many.
+type End = (
+    &'static [u8],
+    usize,
+    &'static [u64],
+    &'static [u64],
+    u8,
+    &'static str,
+);
+
+/// The whole, cut in its entry and in its head, and what is none; a read of the head and one of the entry fails, and the second
+/// write.
+const ENDS: &[End] = &[
+    (WORSE, 87, &[], &[], 2, FIRST),
+    (WORSE, 78, &[], &[], 0, FIRST),
+    (WORSE, 77, &[], &[], 3, FIRST),
+    (WORSE, 58, &[], &[], 3, FIRST),
+    (WORSE, 57, &[], &[], 0, FIRST),
+    (WORSE, 56, &[], &[], 3, ""),
+    (WORSE, 0, &[], &[], 3, ""),
+    (OTHER, 8, &[], &[], 4, ""),
+    (WORSE, 78, &[0], &[], 5, ""),
+    (WORSE, 78, &[3], &[], 5, FIRST),
+    (WORSE, 78, &[], &[1], 6, "# moments are milli"),
+];
+
+fn ends_so(alloc: Global, words: &[&str], end: &End) -> Option<bool> {
+    let (bytes, count, reads_fail, writes_fail, status, told) = *end;
+    goes(
+        alloc,
+        &Run {
+            words,
+            journal: bytes.get(..count)?,
+            reads_fail,
+            writes_fail,
+            status,
+            told: told.as_bytes(),
+        },
+    )
 }
 
-/// So many bytes from the front, or all where there are fewer.
-fn front_of(bytes: &[u8], count: usize) -> &[u8] {
-    if count <= bytes.len() {
-        &bytes[..count]
-    } else {
-        bytes
+fn all_end_so(alloc: Global, ends: &[End]) -> Option<bool> {
+    for end in ends {
+        if !ends_so(alloc, &[], end)? {
+            return Some(false);
+        }
     }
+    Some(true)
 }
 
-#[test]
-fn the_status_says_how_the_journal_ends(rt: HostRuntime) -> Result<(), Fail> {
-    let alloc = rt.alloc();
-    let whole = journal(alloc)?;
-    // A journal, one that is cut in its entry, and in its head.
-    for (count, status) in [(78, 0), (77, 3), (58, 3), (57, 0), (56, 3), (0, 3)] {
-        let (found, written) = log(alloc, &[], front_of(whole.as_slice(), count), &[], &[])?;
-        assert_eq!(rt; found, status);
-        assert_eq!(rt; written.as_slice(), if count < 57 { &[] } else { FIRST });
-    }
-    let (found, written) = log(alloc, &[], b"GRIDJ002", &[], &[])?;
-    assert_eq!(rt; (found, written.len()), (4, 0));
-    let mut worse = whole;
-    worse.extend_from_slice(&[0, 0, 0, 0, 0, 0, 0, 0, 17])?;
-    let (found, written) = log(alloc, &[], worse.as_slice(), &[], &[])?;
-    assert_eq!(rt; found, 2);
-    assert_eq!(rt; written.as_slice(), FIRST);
-    Ok(())
-}
+/// Words of another program.
+const OTHER_WORDS: &[&[&str]] = &[
+    &["--jso"],
+    &["--json", "--json"],
+    &["--json", "--follow"],
+    &["--follow", "--follow"],
+    &["--metrics", "--page"],
+    &["--metric"],
+    &["text"],
+];
 
-#[test]
-fn a_read_or_a_write_that_fails_is_told(rt: HostRuntime) -> Result<(), Fail> {
-    let alloc = rt.alloc();
-    let whole = journal(alloc)?;
-    let (found, written) = log(alloc, &[], whole.as_slice(), &[0], &[])?;
-    assert_eq!(rt; (found, written.len()), (5, 0));
-    // Three pieces have the head.
-    let (found, written) = log(alloc, &[], whole.as_slice(), &[3], &[])?;
-    assert_eq!(rt; found, 5);
-    assert_eq!(rt; written.as_slice(), FIRST);
-    let (found, written) = log(alloc, &[], whole.as_slice(), &[], &[1])?;
-    assert_eq!(rt; found, 6);
-    assert_eq!(rt; written.as_slice(), front_of(FIRST, 19));
-    Ok(())
-}
+/// Nothing is read or written.
+const UNTOUCHED: End = (WORSE, 78, &[0], &[0], 8, "");
 
-#[test]
-fn other_words_are_told_and_nothing_is_read(rt: HostRuntime) -> Result<(), Fail> {
-    let alloc = rt.alloc();
-    let whole = journal(alloc)?;
-    let rows: [&[&str]; 7] = [
-        &["--jso"],
-        &["--json", "--json"],
-        &["--json", "--follow"],
-        &["--follow", "--follow"],
-        &["--metrics", "--page"],
-        &["--metric"],
-        &["text"],
-    ];
+fn all_are_refused(alloc: Global, rows: &[&[&str]]) -> Option<bool> {
     for words in rows {
-        let (found, written) = log(alloc, words, whole.as_slice(), &[0], &[0])?;
-        assert_eq!(rt; (found, written.len()), (8, 0));
+        if !ends_so(alloc, words, &UNTOUCHED)? {
+            return Some(false);
+        }
     }
-    Ok(())
+    Some(true)
+}
+
+#[test]
+fn the_status_says_how_a_log_ends(rt: HostRuntime) {
+    let so = all_end_so(rt.alloc(), ENDS);
+    assert!(rt; so == Some(true));
+    let so = all_are_refused(rt.alloc(), OTHER_WORDS);
+    assert!(rt; so == Some(true));
 }

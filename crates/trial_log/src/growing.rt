@@ -1,14 +1,11 @@
-//! A journal that grows while it is read.
+//! A journal that grows while it is read, and one of which a part is past.
 ghost use Rattle.std.specs.Prelude.{◌≡◌, None};
 
-use crate::changes::{beaten, bound, browser, ended, suspected};
-use crate::logs::{head, put};
+use crate::logs::{HEAD, put_all, sink, source, status_of, words_of};
 use grid_log::{Form, Recall, log_behind, log_lines};
-use grid_outside::{Failed, MemClock, MemSink, MemSource, Source};
-use grid_report::report_main;
-use grid_types::{Bytes, EndCause, Entry, Moment, NoMemory, Text};
+use grid_outside::{Clock, Failed, MemClock, MemSink, MemSource, Sink, Source};
+use grid_types::{Change, Entry, Moment, Text};
 use std::alloc::Global;
-use std::test::Fail;
 
 /// Gives what the first source has, tells one end, and then gives what the second has.
 #[derive(Drop)]
@@ -44,24 +41,9 @@ impl Source for Growing {
     }
 }
 
-/// The journal of a suspicion that is over, of which so many bytes are there at first. Of what comes later the reads with these
-/// numbers fail.
-fn grown(alloc: Global, count: usize, fails: &[u64]) -> Result<Growing, Fail> {
-    let mut journal = head(alloc)?;
-    let change = suspected(1, 5).ok_or(NoMemory)?;
-    put(alloc, &mut journal, &Entry { caller: 3, change })?;
-    let change = beaten(1, 9).ok_or(NoMemory)?;
-    put(alloc, &mut journal, &Entry { caller: 3, change })?;
-    let count = count.min(journal.len());
-    let fails = fails.to_vec(alloc)?;
-    Ok(Growing {
-        first: MemSource::new(Bytes::of(alloc, &journal[..count])?, 23, Vec::new(alloc)),
-        second: MemSource::new(Bytes::of(alloc, &journal[count..])?, 23, fails),
-        has_grown: false,
-        ends: 0,
-        faults: 0,
-    })
-}
+/// The journal of a suspicion that is over: 57 bytes are the head and 21 the first entry.
+const JOURNAL: &[u8] =
+    b"GRIDJ001\0\0\0\0\0\x04\x93\xe0\0\0\0\0\0\x04\x93\xe0\0\0\0\0\0\x01\xd4\xc0\0\0'\x10\0\0\0\0\x01\0\0\0\0\0\0\0\x01\0\0\0\0\0\x03\xa9\x80\0\0\0\0\0\0\0\x03\x10\0\0\0\x01\0\0\0\0\0\0\0\x05\0\0\0\0\0\0\0\x03\x02\0\0\0\x01\0\0\0\0\0\0\0\x09";
 
 /// What both entries tell behind the first line, and the first alone.
 const BOTH: &[u8] =
@@ -70,72 +52,115 @@ const BOTH: &[u8] =
 const ONE: &[u8] =
     b"# moments are milliseconds since the hub's clock began\n5 node suspect node=1 meaning=\"no sign of life for long: it gets no new sessions until it gives one\"\n";
 
-#[test]
-fn a_log_goes_on_where_its_input_grows(rt: HostRuntime) -> Result<(), Fail> {
-    let alloc = rt.alloc();
-    // The input ends behind the first entry and in the midst of the second; without a pause the log ends there too.
-    for (count, pauses, status) in [(78, 2, 0), (80, 1, 0), (78, 0, 0), (80, 0, 3)] {
-        let mut input = grown(alloc, count, &[])?;
-        let mut output = MemSink::new(alloc, 19, Vec::new(alloc));
-        let mut clock = MemClock::new(Moment(0));
-        let found = log_lines(
-            alloc,
-            Form::Text,
-            pauses,
-            &mut input,
-            &mut output,
-            &mut clock,
-        );
-        assert_eq!(rt;
-            (found, clock.paused_ms()),
-            (status, pauses.saturating_mul(500))
-        );
-        assert_eq!(rt; output.taken(), if pauses > 0 { BOTH } else { ONE });
+/// How many bytes are there at first, which reads of the others fail, how many pauses there may be (none is said where the word
+/// `--follow` asks for them), the status, how many pauses there were, and what is written.
+type Row = (usize, &'static [u64], Option<u64>, u8, u64, &'static [u8]);
+
+/// The input ends behind the first entry and in the midst of the second; without a pause the log ends there too. Where the word asks,
+/// a read fails behind the second entry.
+const ROWS: &[Row] = &[
+    (78, &[], Some(2), 0, 2, BOTH),
+    (80, &[], Some(1), 0, 1, BOTH),
+    (78, &[], Some(0), 0, 0, ONE),
+    (80, &[], Some(0), 3, 0, ONE),
+    (78, &[1], None, 5, 1, BOTH),
+];
+
+/// The status of a log with so many pauses, of which a trial asks no clause.
+fn status_by<S: Source, K: Sink, C: Clock>(
+    alloc: Global,
+    words: &[Text],
+    pauses: Option<u64>,
+    input: &mut S,
+    output: &mut K,
+    clock: &mut C,
+) -> u8 {
+    match pauses {
+        Some(pauses) => log_lines(alloc, Form::Text, pauses, input, output, clock),
+        None => status_of(alloc, words, input, output, clock),
     }
-    Ok(())
 }
 
-#[test]
-fn the_word_asks_for_it(rt: HostRuntime) -> Result<(), Fail> {
-    let alloc = rt.alloc();
-    let mut words = Vec::new(alloc);
-    words.push(Text::of(alloc, "--follow")?)?;
-    // Behind the second entry a read fails.
-    let mut input = grown(alloc, 78, &[1])?;
-    let mut output = MemSink::new(alloc, 19, Vec::new(alloc));
+fn grown(alloc: Global, count: usize, fails: &[u64]) -> Option<Growing> {
+    let first = source(alloc, JOURNAL.get(..count)?, &[])?;
+    let second = source(alloc, JOURNAL.get(count..)?, fails)?;
+    Some(Growing {
+        first,
+        second,
+        has_grown: false,
+        ends: 0,
+        faults: 0,
+    })
+}
+
+fn goes(alloc: Global, words: &[Text], row: &Row) -> Option<bool> {
+    let (count, fails, pauses, status, paused, told) = *row;
+    let mut input = grown(alloc, count, fails)?;
+    let mut output = sink(alloc, &[])?;
     let mut clock = MemClock::new(Moment(0));
-    let found = report_main(alloc, words.as_slice(), &mut input, &mut output, &mut clock);
-    assert_eq!(rt; (found, clock.pauses()), (5, 1));
-    assert_eq!(rt; output.taken(), BOTH);
-    Ok(())
+    let found = status_by(alloc, words, pauses, &mut input, &mut output, &mut clock);
+    let waited = clock.pauses() == paused && clock.paused_ms() == paused.saturating_mul(500);
+    Some(found == status && waited && output.taken() == told)
+}
+
+fn all_go(alloc: Global, words: &[Text], rows: &[Row]) -> Option<bool> {
+    for row in rows {
+        if !goes(alloc, words, row)? {
+            return Some(false);
+        }
+    }
+    Some(true)
 }
 
 #[test]
-fn a_log_goes_on_behind_what_is_past(rt: HostRuntime) -> Result<(), Fail> {
-    let alloc = rt.alloc();
+fn a_log_goes_on_where_its_input_grows(rt: HostRuntime) {
+    let so = match words_of(rt.alloc(), &["--follow"]) {
+        Some(words) => all_go(rt.alloc(), words.as_slice(), ROWS),
+        None => None,
+    };
+    assert!(rt; so == Some(true));
+}
+
+/// The second entry alone, behind the head.
+const LATER: &[&[u8]] = &[HEAD, b"\0\0\0\0\0\0\0\x03\x02\0\0\0\x01\0\0\0\0\0\0\0\x09"];
+
+const BACK: &[u8] =
+    b"# moments are milliseconds since the hub's clock began\n9 node back node=1 meaning=\"it gave a sign of life\"\n";
+
+/// The status of the log of what comes behind the first entry.
+fn status_behind<S: Source, K: Sink, C: Clock>(
+    alloc: Global,
+    input: &mut S,
+    output: &mut K,
+    clock: &mut C,
+) -> Option<u8> {
     let mut past = Recall::new(alloc);
-    let caps = browser(alloc, "chrome").ok_or(NoMemory)?;
-    let change = bound(caps, 1, 9, "s", 5).ok_or(NoMemory)?;
-    past.note(&Entry { caller: 3, change })?;
-    let mut journal = head(alloc)?;
-    let change = ended(1, EndCause::Idle, 7).ok_or(NoMemory)?;
-    put(alloc, &mut journal, &Entry { caller: 3, change })?;
-    let mut input = MemSource::new(Bytes::of(alloc, journal.as_slice())?, 23, Vec::new(alloc));
-    let mut output = MemSink::new(alloc, 19, Vec::new(alloc));
+    let first = Entry {
+        caller: 3,
+        change: Change::Suspected {
+            node: 1,
+            at: Moment(5),
+        },
+    };
+    match past.note(&first) {
+        Ok(()) => Some(log_behind(alloc, Form::Text, past, 0, input, output, clock)),
+        Err(_) => None,
+    }
+}
+
+fn goes_behind(alloc: Global, journal: &mut Vec<u8>) -> Option<bool> {
+    if !put_all(journal, LATER) {
+        return None;
+    }
+    let mut input = source(alloc, journal.as_slice(), &[])?;
+    let mut output: MemSink = sink(alloc, &[])?;
     let mut clock = MemClock::new(Moment(0));
-    let found = log_behind(
-        alloc,
-        Form::Text,
-        past,
-        0,
-        &mut input,
-        &mut output,
-        &mut clock,
-    );
-    assert_eq!(rt; found, 0);
-    assert_eq!(rt;
-        output.taken(),
-        b"# moments are milliseconds since the hub's clock began\n7 session ended session=s request=1 node=9 slot=0 cause=idle lasted_ms=2\n".as_slice()
-    );
-    Ok(())
+    let found = status_behind(alloc, &mut input, &mut output, &mut clock)?;
+    Some(found == 0 && output.taken() == BACK)
+}
+
+#[test]
+fn a_log_goes_on_behind_what_is_past(rt: HostRuntime) {
+    let so = goes_behind(rt.alloc(), &mut Vec::new(rt.alloc()));
+    assert!(rt; so == Some(true));
 }

@@ -1,8 +1,8 @@
-//! Worked cases of the definitions and the rules.
+//! Worked cases of the rules, the published map between a put and its removal, and the signs of life that a table notes.
 #![tactic(auto)]
 
 #[cfg(test)]
-mod definitions;
+mod map;
 #[cfg(test)]
 mod matching;
 #[cfg(test)]
@@ -10,6 +10,6 @@ mod members;
 #[cfg(test)]
 mod moments;
 #[cfg(test)]
-mod remembering;
-#[cfg(test)]
 mod selecting;
+#[cfg(test)]
+mod signs;

@@ -1,4 +1,4 @@
-//! Capabilities in few words: a constant of a trial says them, and here they are made and compared.
+//! Capabilities in few words: a constant of a trial says them, and here they are made.
 use grid_types::{Cap, CapValue, Caps, NoMemory, Text};
 use std::alloc::Global;
 
@@ -38,20 +38,4 @@ pub(crate) fn put(alloc: Global, caps: &mut Caps, member: &Member) -> Result<(),
         Ok(()) => Ok(()),
         Err(_) => Err(NoMemory),
     }
-}
-
-fn is_value(value: &CapValue, kind: Kind, text: &str) -> bool {
-    match (value, kind) {
-        (CapValue::Text(content), Kind::Text) => content.as_str() == text,
-        (CapValue::Raw(content), Kind::Raw) => content.as_str() == text,
-        (CapValue::Flag(flag), Kind::On) => *flag,
-        (CapValue::Flag(flag), Kind::Off) => !*flag,
-        _ => false,
-    }
-}
-
-/// Whether this is that capability.
-pub(crate) fn is(cap: &Cap, member: &Member) -> bool {
-    let (name, kind, text) = *member;
-    cap.name.as_str() == name && is_value(&cap.value, kind, text)
 }

@@ -1,4 +1,4 @@
-//! Tables of HTTP frames, read whole and fed in pieces, and of JSON texts, bodies, capabilities, routes and lists.
+//! Tables of HTTP frames, and of JSON texts, bodies, capabilities, routes and lists.
 #![tactic(auto)]
 
 #[cfg(test)]
@@ -7,8 +7,6 @@ mod bodies;
 mod lists;
 #[cfg(test)]
 mod merging;
-#[cfg(test)]
-mod pieces;
 #[cfg(test)]
 mod replies;
 #[cfg(test)]

@@ -1,9 +1,7 @@
 //! Replies that are there as a whole, from outside cases of HTTP, and what is written.
-use crate::whole_texts::{Told, read_front};
-use grid_types::NoMemory;
+use grid_types::{Bytes, NoMemory};
 use http_frames::*;
 use std::alloc::Global;
-use std::process::Abort;
 
 /// What `next_response` answers, without the reply.
 #[derive(Clone, Copy, PartialEq, Eq)]
@@ -24,8 +22,10 @@ fn hear(alloc: Global, buf: &[u8], ended: bool) -> Result<Heard, NoMemory> {
     }
 }
 
-/// The bytes, and the answers where more bytes may come and where none do.
-const REPLIES: &[(&[u8], Heard, Heard)] = &[
+/// Bytes, and the answers where more may come and where none do.
+type Row = (&'static [u8], Heard, Heard);
+
+const REPLIES: &[Row] = &[
     (b"", Waits, NotHttp),
     (b"HTTP/1.1 20", Waits, NotHttp),
     (
@@ -137,14 +137,20 @@ const REPLIES: &[(&[u8], Heard, Heard)] = &[
     (b"hello", NotHttp, NotHttp),
 ];
 
-#[test]
-fn replies(rt: HostRuntime) -> Result<(), NoMemory> {
-    for (bytes, open, ended) in REPLIES {
-        let told = hear(rt.alloc(), bytes, false)?;
-        let last = hear(rt.alloc(), bytes, true)?;
-        assert!(rt; told == *open && last == *ended, "{bytes:?}");
+fn are_heard(alloc: Global, rows: &[Row]) -> Result<bool, NoMemory> {
+    for (bytes, open, ended) in rows {
+        let told = hear(alloc, bytes, false)?;
+        let last = hear(alloc, bytes, true)?;
+        if told != *open || last != *ended {
+            return Ok(false);
+        }
     }
-    Ok(())
+    Ok(true)
+}
+
+#[test]
+fn replies(rt: HostRuntime) {
+    assert!(rt; are_heard(rt.alloc(), REPLIES) == Ok(true));
 }
 
 const HEADERS: ReplyHeaders<'static> = ReplyHeaders {
@@ -155,39 +161,6 @@ const HEADERS: ReplyHeaders<'static> = ReplyHeaders {
 
 const RESPONSE: &[u8] =
     b"HTTP/1.1 200 OK\r\nContent-Type: application/json; charset=utf-8\r\nCache-Control: no-cache\r\nContent-Length: 14\r\nConnection: close\r\n\r\n{\"value\":null}";
-
-fn is_that_reply(reply: &NodeReply) -> bool {
-    reply.status == 200
-        && reply.reason.as_bytes() == b"OK".as_slice()
-        && reply.body.as_bytes() == b"{\"value\":null}".as_slice()
-}
-
-fn reads_that_reply(alloc: Global, written: &[u8]) -> Result<bool, NoMemory> {
-    match next_response(alloc, written, false, LIMITS)? {
-        RStep::Whole(reply, _) => Ok(is_that_reply(&reply)),
-        _ => Ok(false),
-    }
-}
-
-fn response_is_written(rt: &impl Abort, alloc: Global) -> Result<(), NoMemory> {
-    let response = write_response(alloc, 200, b"OK", HEADERS, b"{\"value\":null}", true)?;
-    assert!(rt; response.as_bytes() == RESPONSE);
-    let so = reads_that_reply(alloc, response.as_bytes())?;
-    assert!(rt; so);
-    Ok(())
-}
-
-const NO_HEADERS: ReplyHeaders<'static> = ReplyHeaders {
-    content_type: None,
-    content_encoding: None,
-    cache_control: None,
-};
-
-fn empty_is_written(rt: &impl Abort, alloc: Global) -> Result<(), NoMemory> {
-    let empty = write_response(alloc, 304, b"Not Modified", NO_HEADERS, b"", false)?;
-    assert!(rt; empty.as_bytes() == b"HTTP/1.1 304 Not Modified\r\n\r\n".as_slice());
-    Ok(())
-}
 
 const REQUEST: NodeRequest<'static> = NodeRequest {
     method: b"DELETE",
@@ -202,16 +175,17 @@ const REQUEST: NodeRequest<'static> = NodeRequest {
 const WRITTEN: &[u8] =
     b"DELETE /session/a HTTP/1.1\r\nHost: 127.0.0.1:5555\r\nAccept: */*\r\nContent-Length: 0\r\nConnection: close\r\n\r\n";
 
-fn request_is_written(rt: &impl Abort, alloc: Global) -> Result<(), NoMemory> {
-    let written = write_request(alloc, b"127.0.0.1:5555", &REQUEST)?;
-    assert!(rt; written.as_bytes() == WRITTEN);
-    assert!(rt; read_front(written.as_bytes()) == Told::Whole(103));
-    Ok(())
+fn is(written: Result<Bytes, NoMemory>, wanted: &[u8]) -> bool {
+    match written {
+        Ok(written) => written.as_bytes() == wanted,
+        Err(_) => false,
+    }
 }
 
 #[test]
-fn what_is_written(rt: HostRuntime) -> Result<(), NoMemory> {
-    response_is_written(&rt, rt.alloc())?;
-    empty_is_written(&rt, rt.alloc())?;
-    request_is_written(&rt, rt.alloc())
+fn what_is_written(rt: HostRuntime) {
+    let response = write_response(rt.alloc(), 200, b"OK", HEADERS, b"{\"value\":null}", true);
+    assert!(rt; is(response, RESPONSE));
+    let request = write_request(rt.alloc(), b"127.0.0.1:5555", &REQUEST);
+    assert!(rt; is(request, WRITTEN));
 }

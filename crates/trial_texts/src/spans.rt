@@ -1,7 +1,6 @@
-//! Outside cases of JSON, and its parts.
-use json_spans::JsonFault::{Deep, Many, NotUtf8, Repeated, Syntax};
-use json_spans::*;
-use std::alloc::{AllocError, Global};
+//! Outside cases of JSON.
+use json_spans::JsonFault::{NotUtf8, Syntax};
+use json_spans::{JsonFault, cut};
 
 /// The examples of RFC 8259, section 13.
 const IMAGE: &[u8] = br#"{
@@ -143,208 +142,16 @@ fn fault_of(text: &[u8]) -> Option<JsonFault> {
     }
 }
 
-#[test]
-fn outside_cases(rt: HostRuntime) {
-    for (text, fault) in CASES {
-        assert!(rt; fault_of(text) == *fault, "{text:?}");
-    }
-}
-
-const OVER: [[u8; 128]; 2] = [[b'['; 128], [b']'; 128]];
-
-const MOST: [[u8; 127]; 2] = [[b'['; 127], [b']'; 127]];
-
-#[test]
-fn levels(rt: HostRuntime) {
-    assert!(rt; fault_of(OVER.as_flattened()) == Some(Deep { at: 127 }));
-    assert!(rt; fault_of(MOST.as_flattened()).is_none());
-}
-
-fn is_that_list(span: Span<'_>) -> bool {
-    span.kind() == Kind::List && span.place() == 2 && span.bytes() == b"[1.50]".as_slice()
-}
-
-#[test]
-fn a_span(rt: HostRuntime) {
-    match cut(b" \n[1.50] ") {
-        Ok(span) => assert!(rt; is_that_list(span)),
-        Err(_) => assert!(rt; false),
-    }
-}
-
-const TIGHT: &[(&[u8], &str)] = &[
-    (b"[ 1.0 , \"a b\" ]", "[1.0,\"a b\"]"),
-    (
-        IMAGE,
-        "{\"Image\":{\"Width\":800,\"Height\":600,\"Title\":\"View from 15th Floor\",\"Thumbnail\":{\"Url\":\"http://www.example.com/image/481989943\",\"Height\":125,\"Width\":100},\"Animated\":false,\"IDs\":[116,943,234,38793]}}",
-    ),
-    (b" \"\\\" \\\\\" ", "\"\\\" \\\\\""),
-    (
-        b"{ \"\xc3\xa9 \" :\t\"\xf0\x9f\x98\x80\" }\n",
-        "{\"\u{e9} \":\"\u{1f600}\"}",
-    ),
-];
-
-fn is_tight(alloc: Global, span: Span<'_>, tight: &str) -> bool {
-    match squeezed(alloc, span) {
-        Ok(squeezed) => squeezed.as_str() == tight,
-        Err(_) => false,
-    }
-}
-
-fn has_tight(alloc: Global, text: &[u8], tight: &str) -> bool {
-    match cut(text) {
-        Ok(span) => is_tight(alloc, span, tight),
-        Err(_) => false,
-    }
-}
-
-#[test]
-fn without_white_space(rt: HostRuntime) {
-    for (text, tight) in TIGHT {
-        assert!(rt; has_tight(rt.alloc(), text, tight), "{tight}");
-    }
-}
-
-fn count_in(alloc: Global, span: Span<'_>) -> Option<Result<usize, JsonFault>> {
-    if span.kind() != Kind::Object {
-        return None;
-    }
-    match members(alloc, span) {
-        Ok(list) => Some(Ok(list.items().len())),
-        Err(fault) => Some(Err(fault)),
-    }
-}
-
-/// How many members an object has; None for another text.
-fn count_members(alloc: Global, text: &[u8]) -> Option<Result<usize, JsonFault>> {
-    match cut(text) {
-        Ok(span) => count_in(alloc, span),
-        Err(_) => None,
-    }
-}
-
-const COUNTS: &[(&[u8], Result<usize, JsonFault>)] = &[
-    (b"{\"a\":1,\"a\":2}", Err(Repeated { first: 1, again: 7 })),
-    (b"{\"a\":1,\"b\":2}", Ok(2)),
-    (b" { }", Ok(0)),
-    (
-        b"{\"b\":1,\"a\":{},\"\\u0061\":2,\"b\":0}",
-        Err(Repeated {
-            first: 7,
-            again: 14,
-        }),
-    ),
-    (
-        b" {\"a\" : 1 , \"b\": 2, \"A\":3, \"b\" :2}",
-        Err(Repeated {
-            first: 12,
-            again: 27,
-        }),
-    ),
-];
-
-#[test]
-fn names(rt: HostRuntime) {
-    for (text, count) in COUNTS {
-        assert!(rt; count_members(rt.alloc(), text) == Some(*count), "{text:?}");
-    }
-}
-
-/// More elements than one are too many, and two are not.
-fn has_two(alloc: Global, list: Span<'_>) -> bool {
-    if list.kind() != Kind::List {
-        return false;
-    }
-    let over = matches!(elements(alloc, list, 1), Err(Many { at: 8 }));
-    match elements(alloc, list, 2) {
-        Ok(items) => over && items.items().len() == 2,
-        Err(_) => false,
-    }
-}
-
-fn is_that_value(alloc: Global, list: Span<'_>) -> bool {
-    list.place() == 8
-        && list.bytes() == b"[ 1.0 , \"a b\" ]".as_slice()
-        && is_tight(alloc, list, "[1.0,\"a b\"]")
-        && element_count(list) == 2
-        && has_two(alloc, list)
-}
-
-fn is_first(alloc: Global, name: Span<'_>, list: Span<'_>) -> bool {
-    name.place() == 2 && name.bytes() == b"\"a\"".as_slice() && is_that_value(alloc, list)
-}
-
-fn has_letters(alloc: Global, name: Span<'_>, letters: &str) -> bool {
-    if name.kind() != Kind::Text {
-        return false;
-    }
-    match text(alloc, name) {
-        Ok(text) => text.as_str() == letters,
-        Err(_) => false,
-    }
-}
-
-fn is_second(alloc: Global, name: Span<'_>, null: Span<'_>) -> bool {
-    name.place() == 25 && null.kind() == Kind::Null && has_letters(alloc, name, "\u{e9}")
-}
-
-fn is_pair(alloc: Global, name: Span<'_>, value: Span<'_>) -> bool {
-    if name.place() == 2 {
-        is_first(alloc, name, value)
-    } else {
-        is_second(alloc, name, value)
-    }
-}
-
-fn are_both(alloc: Global, pairs: &[(Span<'_>, Span<'_>)]) -> bool {
-    for pair in pairs {
-        let (name, value) = *pair;
-        if !is_pair(alloc, name, value) {
+fn are_cut(cases: &[(&[u8], Option<JsonFault>)]) -> bool {
+    for (text, fault) in cases {
+        if fault_of(text) != *fault {
             return false;
         }
     }
-    pairs.len() == 2
-}
-
-fn has_both(alloc: Global, object: Span<'_>) -> bool {
-    if object.kind() != Kind::Object || element_count(object) != 0 {
-        return false;
-    }
-    match members(alloc, object) {
-        Ok(list) => are_both(alloc, list.items()),
-        Err(_) => false,
-    }
+    true
 }
 
 #[test]
-fn parts(rt: HostRuntime) {
-    match cut(b" {\"a\" : [ 1.0 , \"a b\" ], \"\\u00e9\":null}") {
-        Ok(object) => assert!(rt; has_both(rt.alloc(), object)),
-        Err(_) => assert!(rt; false),
-    }
-}
-
-/// An object of so many members, of one at least.
-fn put_members(body: &mut String, count: u32) -> Result<(), AllocError> {
-    body.push_str("{\"m0\":0")?;
-    for i in 1..count {
-        write!(body, ",\"m{i}\":0")?;
-    }
-    body.push('}')
-}
-
-fn count_of(alloc: Global, count: u32) -> Result<Option<Result<usize, JsonFault>>, AllocError> {
-    let mut body = String::new(alloc);
-    put_members(&mut body, count)?;
-    Ok(count_members(alloc, body.as_str().as_bytes()))
-}
-
-#[test]
-fn over_the_limit(rt: HostRuntime) -> Result<(), AllocError> {
-    let most = count_of(rt.alloc(), 1024)?;
-    assert!(rt; most == Some(Ok(1024)));
-    let over = count_of(rt.alloc(), 1025)?;
-    assert!(rt; over == Some(Err(Many { at: 0 })));
-    Ok(())
+fn outside_cases(rt: HostRuntime) {
+    assert!(rt; are_cut(CASES));
 }

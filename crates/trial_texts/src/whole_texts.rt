@@ -4,11 +4,10 @@ use http_frames::FrameFault::{
 };
 use http_frames::*;
 use std::alloc::{AllocError, Global};
-use std::process::Abort;
 
 /// What `next_request` answers, without the frame.
 #[derive(Clone, Copy, PartialEq, Eq)]
-pub(crate) enum Told {
+enum Told {
     Whole(usize),
     More,
     /// A body is awaited, and its client waits for `100 Continue`.
@@ -18,7 +17,7 @@ pub(crate) enum Told {
 
 use Told::{Expects, More, Refused, Whole};
 
-pub(crate) fn read_front(buf: &[u8]) -> Told {
+fn read_front(buf: &[u8]) -> Told {
     match next_request(buf, LIMITS) {
         Step::Whole(_, n) => Whole(n),
         Step::More { expects: false } => More,
@@ -34,35 +33,37 @@ fn frame_of(text: &[u8]) -> Option<Frame<'_>> {
     }
 }
 
-const NEW_SESSION: &[u8] =
-    b"POST /session HTTP/1.1\r\nHost: h\r\nContent-Length: 57\r\n\r\n{\"capabilities\":{\"alwaysMatch\":{\"browserName\":\"chrome\"}}}";
-
-const IN_CHUNKS: &[u8] =
-    b"POST /session HTTP/1.1\r\nHost: h\r\nTransfer-Encoding: chunked\r\n\r\n39;x=1\r\n{\"capabilities\":{\"alwaysMatch\":{\"browserName\":\"chrome\"}}}\r\n0\r\n\r\n";
-
-fn are_awaited(text: &[u8]) -> bool {
-    for n in 0..text.len() {
-        if read_front(&text[..n]) != More {
-            return false;
+// Borrows the text, so that no early return drops it.
+fn put(text: &mut Vec<u8>, pieces: &[(&[u8], u64)]) -> Result<(), AllocError> {
+    for (piece, times) in pieces {
+        for _ in 0..*times {
+            text.extend_from_slice(piece)?;
         }
     }
-    true
+    Ok(())
 }
 
-#[test]
-fn each_front_is_awaited(rt: HostRuntime) {
-    assert!(rt; NEW_SESSION.len() == 112 && read_front(NEW_SESSION) == Whole(112));
-    assert!(rt; are_awaited(NEW_SESSION));
-    assert!(rt; read_front(IN_CHUNKS) == Whole(135) && are_awaited(IN_CHUNKS));
+/// Reads the pieces one behind the other, each so many times.
+fn read(alloc: Global, pieces: &[(&[u8], u64)]) -> Result<Told, AllocError> {
+    let mut text = Vec::new(alloc);
+    put(&mut text, pieces)?;
+    Ok(read_front(text.as_slice()))
 }
 
-fn are_read(rt: &impl Abort, texts: &[(&[u8], Told)]) {
-    for (text, answer) in texts {
-        assert!(rt; read_front(text) == *answer, "{text:?}");
+/// A text, and what it is read as.
+type Row = (&'static [u8], Told);
+
+/// Whether the texts are read so between this front and this end.
+fn are_read(alloc: Global, front: &[u8], rows: &[Row], end: &[u8]) -> Result<bool, AllocError> {
+    for (text, answer) in rows {
+        if read(alloc, &[(front, 1), (text, 1), (end, 1)])? != *answer {
+            return Ok(false);
+        }
     }
+    Ok(true)
 }
 
-const HEADS: &[(&[u8], Told)] = &[
+const HEADS: &[Row] = &[
     (b"", More),
     (b"GET", More),
     (b"GET ", More),
@@ -109,29 +110,21 @@ const HEADS: &[(&[u8], Told)] = &[
     (b"GET / HTTP/1.1\r\nA b\r\n\r\n", Refused(BadHead)),
     (b"GET / HTTP/1.1\r\n: b\r\n\r\n", Refused(BadHead)),
     (b"GET / HTTP/1.1\r\nA: b\r\n\rx", Refused(BadHead)),
+    // A client of HTTP/1.0 does not wait.
+    (
+        b"GET / HTTP/1.0\r\nExpect: 100-continue\r\nContent-Length: 1\r\n\r\n",
+        More,
+    ),
+    (
+        b"GET / HTTP/1.1\r\nExpect: 100-continue\r\nContent-Length: 1\r\n\r\n",
+        Expects,
+    ),
 ];
 
-#[test]
-fn heads(rt: HostRuntime) {
-    are_read(&rt, HEADS);
-}
-
-/// Puts a request whose head has these lines, and then the body.
-fn put_request(text: &mut Vec<u8>, lines: &[u8], body: &[u8]) -> Result<(), AllocError> {
-    text.extend_from_slice(b"POST / HTTP/1.1\r\n")?;
-    text.extend_from_slice(lines)?;
-    text.extend_from_slice(b"\r\n")?;
-    text.extend_from_slice(body)
-}
-
-fn read_request(alloc: Global, lines: &[u8], body: &[u8]) -> Result<Told, AllocError> {
-    let mut text = Vec::new(alloc);
-    put_request(&mut text, lines, body)?;
-    Ok(read_front(text.as_slice()))
-}
+const POST: &[u8] = b"POST / HTTP/1.1\r\n";
 
 /// 17 bytes of the first line and 2 of the empty one.
-const LENGTHS_AND_CODINGS: &[(&[u8], Told)] = &[
+const LENGTHS_AND_CODINGS: &[Row] = &[
     (b"", Whole(19)),
     (b"Content-Length: 0\r\n", Whole(38)),
     (b"Content-Length: 5\r\n", Whole(43)),
@@ -183,17 +176,8 @@ const LENGTHS_AND_CODINGS: &[(&[u8], Told)] = &[
     (b"Transfer-Encoding:  Chunked \r\n", Refused(BadChunk)),
 ];
 
-#[test]
-fn lengths_and_codings(rt: HostRuntime) -> Result<(), AllocError> {
-    for (lines, answer) in LENGTHS_AND_CODINGS {
-        let told = read_request(rt.alloc(), lines, b"hello")?;
-        assert!(rt; told == *answer, "{lines:?}");
-    }
-    Ok(())
-}
-
 /// 47 bytes of the head.
-const CHUNKED_BODIES: &[(&[u8], Told)] = &[
+const CHUNKED_BODIES: &[Row] = &[
     (b"", More),
     (b"0", More),
     (b"0\r\n", More),
@@ -224,15 +208,6 @@ const CHUNKED_BODIES: &[(&[u8], Told)] = &[
     (b"0\r\nX y\r\n", Refused(BadChunk)),
     (b"0\r\n: y\r\n\r\n", Refused(BadChunk)),
 ];
-
-#[test]
-fn chunked_bodies(rt: HostRuntime) -> Result<(), AllocError> {
-    for (body, answer) in CHUNKED_BODIES {
-        let told = read_request(rt.alloc(), b"Transfer-Encoding: chunked\r\n", body)?;
-        assert!(rt; told == *answer, "{body:?}");
-    }
-    Ok(())
-}
 
 /// The lines, whether the connection ends, and whether the client waits.
 const ASKS: &[(&[u8], bool, bool)] = &[
@@ -277,182 +252,77 @@ fn request_asks(
     expects: bool,
 ) -> Result<bool, AllocError> {
     let mut text = Vec::new(alloc);
-    put_request(&mut text, lines, b"a")?;
-    let text = text.as_slice();
-    Ok(asks(text, closes, expects) && expects_continue(text, LIMITS) == expects)
+    put(&mut text, &[(POST, 1), (lines, 1), (b"\r\na", 1)])?;
+    Ok(asks(text.as_slice(), closes, expects))
 }
 
-/// The client waits also where the body is refused.
-fn waits_where_refused(alloc: Global) -> Result<bool, AllocError> {
-    let mut text = Vec::new(alloc);
-    put_request(
-        &mut text,
-        b"Transfer-Encoding: chunked\r\nExpect: 100-continue\r\n",
-        b"x",
-    )?;
-    let text = text.as_slice();
-    Ok(read_front(text) == Refused(BadChunk) && expects_continue(text, LIMITS))
+fn all_ask(alloc: Global, rows: &[(&[u8], bool, bool)]) -> Result<bool, AllocError> {
+    for (lines, closes, expects) in rows {
+        if !request_asks(alloc, lines, *closes, *expects)? {
+            return Ok(false);
+        }
+    }
+    Ok(true)
 }
-
-const OPEN: &[(&[u8], Told)] = &[
-    (
-        b"GET / HTTP/1.0\r\nExpect: 100-continue\r\nContent-Length: 1\r\n\r\n",
-        More,
-    ),
-    (
-        b"GET / HTTP/1.1\r\nExpect: 100-continue\r\nContent-Length: 1\r\n\r\n",
-        Expects,
-    ),
-];
 
 #[test]
-fn what_a_head_asks(rt: HostRuntime) -> Result<(), AllocError> {
-    for (lines, closes, expects) in ASKS {
-        let so = request_asks(rt.alloc(), lines, *closes, *expects)?;
-        assert!(rt; so, "{lines:?}");
-    }
-    are_read(&rt, OPEN);
-    let so = waits_where_refused(rt.alloc())?;
-    assert!(rt; so);
-    Ok(())
+fn what_a_head_asks(rt: HostRuntime) {
+    assert!(rt; all_ask(rt.alloc(), ASKS) == Ok(true));
 }
 
-/// Puts a head of one line, then so many headers, then the end.
-fn put_head(head: &mut Vec<u8>, headers: u64, end: &[u8]) -> Result<(), AllocError> {
-    head.extend_from_slice(b"GET / HTTP/1.1\r\n")?;
-    for _ in 0..headers {
-        head.extend_from_slice(b"A: b\r\n")?;
-    }
-    head.extend_from_slice(end)
-}
+/// A front, what stands behind it so many times, an end, and what that is read as.
+type LongRow = (&'static [u8], &'static [u8], u64, &'static [u8], Told);
 
-fn read_head(alloc: Global, headers: u64, end: &[u8]) -> Result<Told, AllocError> {
-    let mut head = Vec::new(alloc);
-    put_head(&mut head, headers, end)?;
-    Ok(read_front(head.as_slice()))
-}
+const LINE: &[u8] = b"GET / HTTP/1.1\r\n";
 
 /// 16 bytes of the first line and 6 of each header.
-const MANY_HEADERS: &[(u64, &[u8], Told)] = &[
-    (100, b"\r\n", Whole(618)),
-    (100, b"", More),
-    (100, b"\r", More),
-    (100, b"A", Refused(BadHead)),
-    (101, b"\r\n", Refused(BadHead)),
-];
-
-#[test]
-fn room_for_100_headers(rt: HostRuntime) -> Result<(), AllocError> {
-    for (headers, end, answer) in MANY_HEADERS {
-        let told = read_head(rt.alloc(), *headers, end)?;
-        assert!(rt; told == *answer, "{headers} {end:?}");
-    }
-    Ok(())
-}
-
-/// Puts the front, and so many bytes `x` behind it.
-fn pad(text: &mut Vec<u8>, front: &[u8], count: u64) -> Result<(), AllocError> {
-    text.extend_from_slice(front)?;
-    for _ in 0..count {
-        text.extend_from_slice(b"x")?;
-    }
-    Ok(())
-}
-
-fn read_padded(alloc: Global, front: &[u8], count: u64) -> Result<Told, AllocError> {
-    let mut text = Vec::new(alloc);
-    pad(&mut text, front, count)?;
-    Ok(read_front(text.as_slice()))
-}
-
-const HEADER: &[u8] = b"GET / HTTP/1.1\r\nA: ";
+const HEADER: &[u8] = b"A: b\r\n";
 
 const TARGET: &[u8] = b"GET /\x01";
 
-/// The head has 47 bytes, and the chunk line begins behind it.
+/// The head has 47 bytes.
+const CHUNKED: &[u8] = b"POST / HTTP/1.1\r\nTransfer-Encoding: chunked\r\n\r\n";
+
 const CHUNK_LINE: &[u8] = b"POST / HTTP/1.1\r\nTransfer-Encoding: chunked\r\n\r\n1;";
 
 const TRAILER: &[u8] = b"POST / HTTP/1.1\r\nTransfer-Encoding: chunked\r\n\r\n0\r\nA:";
 
-const LONG_LINES: &[(&[u8], u64, Told)] = &[
-    (HEADER, 65_516, More),
-    (HEADER, 65_517, Refused(HeadTooLong)),
-    (TARGET, 65_529, More),
-    (TARGET, 65_530, Refused(HeadTooLong)),
-    (CHUNK_LINE, 4_093, More),
-    (CHUNK_LINE, 4_094, Refused(BadChunk)),
-    (TRAILER, 65_533, More),
-    (TRAILER, 65_534, Refused(BadChunk)),
+/// There is room for 100 headers, 65,536 bytes of a head or of trailers, and 4,096 of a chunk line.
+const LONG: &[LongRow] = &[
+    (LINE, HEADER, 100, b"\r\n", Whole(618)),
+    (LINE, HEADER, 100, b"", More),
+    (LINE, HEADER, 100, b"\r", More),
+    (LINE, HEADER, 100, b"A", Refused(BadHead)),
+    (LINE, HEADER, 101, b"\r\n", Refused(BadHead)),
+    (b"GET / HTTP/1.1\r\nA: ", b"x", 65_516, b"", More),
+    (
+        b"GET / HTTP/1.1\r\nA: ",
+        b"x",
+        65_517,
+        b"",
+        Refused(HeadTooLong),
+    ),
+    (TARGET, b"x", 65_529, b"", More),
+    (TARGET, b"x", 65_530, b"", Refused(HeadTooLong)),
+    (CHUNK_LINE, b"x", 4_093, b"", More),
+    (CHUNK_LINE, b"x", 4_094, b"", Refused(BadChunk)),
+    (TRAILER, b"x", 65_533, b"", More),
+    (TRAILER, b"x", 65_534, b"", Refused(BadChunk)),
 ];
 
-#[test]
-fn long_lines(rt: HostRuntime) -> Result<(), AllocError> {
-    for (front, count, answer) in LONG_LINES {
-        let told = read_padded(rt.alloc(), front, *count)?;
-        assert!(rt; told == *answer, "{front:?} {count}");
-    }
-    Ok(())
-}
-
-const WITH_PARTS: &[u8] =
-    b"POST /a HTTP/1.1\r\nHOST: h \r\nX: 1\r\nX: 2\r\nConnection: a, Close\r\nTransfer-Encoding: chunked\r\n\r\n2\r\nab\r\n1;x\r\nc\r\n0\r\n\r\n";
-
-fn is_that_head(frame: &Frame<'_>) -> bool {
-    frame.method == b"POST".as_slice()
-        && frame.target == b"/a".as_slice()
-        && frame.head.find(b"host") == Some(b"h".as_slice())
-        && frame.head.find(b"x") == Some(b"1".as_slice())
-        && frame.head.find(b"y").is_none()
-}
-
-fn has_two_parts(body: &Body<'_>) -> bool {
-    let mut parts = body.parts();
-    parts.next() == Some(b"ab".as_slice())
-        && parts.next() == Some(b"c".as_slice())
-        && parts.next().is_none()
-        && parts.next().is_none()
-}
-
-#[test]
-fn parts_of_a_frame(rt: HostRuntime) {
-    match frame_of(WITH_PARTS) {
-        Some(frame) => {
-            assert!(rt; is_that_head(&frame));
-            assert!(rt; has_two_parts(&frame.body) && frame.body.parts().count() == 2);
+fn long_are_read(alloc: Global, rows: &[LongRow]) -> Result<bool, AllocError> {
+    for (front, piece, times, end, answer) in rows {
+        if read(alloc, &[(front, 1), (piece, *times), (end, 1)])? != *answer {
+            return Ok(false);
         }
-        None => panic!(rt; "not whole"),
     }
+    Ok(true)
 }
-
-fn is_that_request(frame: &PlainFrame<'_>) -> bool {
-    frame.method == b"POST".as_slice()
-        && frame.target == b"/session".as_slice()
-        && frame.body == &NEW_SESSION[55..]
-}
-
-fn is_plain(text: &[u8]) -> bool {
-    match plain_request(text) {
-        Some(frame) => is_that_request(&frame),
-        None => false,
-    }
-}
-
-const NOT_PLAIN: &[&[u8]] = &[
-    IN_CHUNKS,
-    b"POST / HTTP/1.1\r\nContent-Length: 1\r\n\r\nab",
-    b"POST / HTTP/1.0\r\nContent-Length: 1\r\n\r\na",
-    b"POST / HTTP/1.1\r\nContent-Length: 1\r\nContent-Length: 1\r\n\r\na",
-    b"POST / HTTP/1.1\r\nContent-Length: 1\r\nConnection: a\r\n\r\na",
-    b"POST / HTTP/1.1\r\nContent-Length: 1\r\nExpect: a\r\n\r\na",
-    b"POST / HTTP/1.1\r\nContent-Length: +1\r\n\r\na",
-    b"POST / HTTP/1.1\r\n\r\n",
-];
 
 #[test]
-fn plain_requests(rt: HostRuntime) {
-    assert!(rt; is_plain(NEW_SESSION));
-    assert!(rt; plain_request(&NEW_SESSION[..111]).is_none());
-    for text in NOT_PLAIN {
-        assert!(rt; plain_request(text).is_none(), "{text:?}");
-    }
+fn requests_are_read(rt: HostRuntime) {
+    assert!(rt; are_read(rt.alloc(), b"", HEADS, b"") == Ok(true));
+    assert!(rt; are_read(rt.alloc(), POST, LENGTHS_AND_CODINGS, b"\r\nhello") == Ok(true));
+    assert!(rt; are_read(rt.alloc(), CHUNKED, CHUNKED_BODIES, b"") == Ok(true));
+    assert!(rt; long_are_read(rt.alloc(), LONG) == Ok(true));
 }

@@ -2,11 +2,9 @@
 ghost use Rattle.std.specs.Prelude.{◌≡◌, []};
 ghost use Rattle.map_view.specs.Maps.{pending};
 
-use crate::names::{address, session};
-use grid_types::{Found, NoMemory, SessionId, SlotId};
+use grid_types::{Found, NoMemory, NodeAddress, SessionId, SlotId};
 use map_view::{Item, Items, MapReader, MapWriter, Readers, new};
 use std::alloc::Global;
-use std::process::Abort;
 use std::sync::Wait;
 
 const PLACE: SlotId = SlotId { node: 1, index: 0 };
@@ -38,22 +36,22 @@ fn finds<R: Wait>(
     item: Item,
     session: &SessionId,
     found: Found,
-) -> Result<bool, NoMemory> {
+) -> bool {
     if !publisher.add(rt, alloc, item) {
-        return Err(NoMemory);
+        return false;
     }
     publisher.writer.tell(told);
-    Ok(told.find(session) == Some(found))
+    told.find(session) == Some(found)
 }
 
-fn finds_between<R: Wait + Abort>(
+fn finds_between<R: Wait>(
     rt: &R,
     alloc: Global,
     publisher: &mut Publisher,
     told: &mut MapReader,
-) -> Result<bool, NoMemory> {
-    let (session, address) = (session(rt, b"a"), address(rt));
-    let before = told.find(&session) == Some(Found::NoSession);
+) -> Option<bool> {
+    let session = SessionId::from_bytes(b"a")?;
+    let address = NodeAddress::from_bytes(b"127.0.0.1:5555")?;
     let put = Item::Put {
         session,
         slot: PLACE,
@@ -65,31 +63,24 @@ fn finds_between<R: Wait + Abort>(
         address,
         binding: 1,
     };
-    let between = finds(rt, alloc, publisher, told, put, &session, found)?;
     let removal = Item::Removal(session);
-    let behind = finds(
-        rt,
-        alloc,
-        publisher,
-        told,
-        removal,
-        &session,
-        Found::NoSession,
-    )?;
-    Ok(before && between && behind)
+    let none = Found::NoSession;
+    Some(
+        told.find(&session) == Some(none)
+            && finds(rt, alloc, publisher, told, put, &session, found)
+            && finds(rt, alloc, publisher, told, removal, &session, none),
+    )
 }
 
 /// Two readers, of which one is told.
-fn one_finds<R: Wait + Abort>(
+fn one_finds<R: Wait>(
     rt: &R,
     alloc: Global,
     publisher: &mut Publisher,
     readers: &mut Readers,
-) -> Result<bool, NoMemory> {
-    match readers.take() {
-        Some(mut told) => finds_between(rt, alloc, publisher, &mut told),
-        None => Ok(false),
-    }
+) -> Option<bool> {
+    let mut told = readers.take()?;
+    finds_between(rt, alloc, publisher, &mut told)
 }
 
 #[test]
@@ -99,7 +90,6 @@ fn a_session_is_found_between_its_put_and_its_removal(rt: HostRuntime) -> Result
     let found = one_finds(&rt, rt.alloc(), &mut publisher, &mut readers);
     let Publisher { writer } = publisher;
     writer.close(&rt);
-    let so = found?;
-    assert!(rt; so);
+    assert!(rt; found == Some(true));
     Ok(())
 }

@@ -1,5 +1,0 @@
-use Rattle.http_frames.specs.Feeding.{StandsForSome}
-use Rattle.trial_texts.proofs.pieces.feed_in.Given as goal
-
-abbrev pub invariant-loop-call : goal.invariant-loop-call
-invariant-loop-call l = StandsForSome l.reader
