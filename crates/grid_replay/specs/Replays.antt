@@ -1,5 +1,6 @@
--- What a replay has of a history: the items that its entries publish.
-use Rattle.std.specs.Prelude.{◌≡◌, ℕ, true, List, [], ◌∷◌, ◌++◌, map, filter_map, Option, None, Some}
+-- What a replay has of a history: the items that its entries publish, which session was at each slot last, and the greatest
+-- number of a caller.
+use Rattle.std.specs.Prelude.{◌≡◌, ℕ, max, true, List, [], ◌∷◌, ◌++◌, map, filter_map, Option, None, Some}
 use Rattle.grid_types.specs.declared.entry.Entry.{Entry}
 use Rattle.grid_types.specs.declared.names.SlotId.{SlotId}
 use Rattle.grid_types.specs.Bindings.{bound_of}
@@ -15,10 +16,23 @@ use Rattle.reservation.specs.Table.{holder_of}
 use Rattle.grid_ledger.specs.declared.ledger.GridLedger.{GridLedger}
 use Rattle.grid_ledger.specs.LedgerStands.{LedgerTells}
 use Rattle.grid_replay.specs.declared.replay.Replay.{Replay}
+use Rattle.grid_replay.specs.Lasts.{last_at, last_in}
 
--- its items, the oldest first, are those that the history published
-abbrev pub Shows : Replay → List Entry → Type 0
-Shows replay history = published [] (listed replay.items) ≡ changes history
+-- its items, the oldest first, are those that the history published, and it knows the session that was at a slot last
+pub record Follows (replay : Replay) (history : List Entry) : Type 0 where
+  pub items : published [] (listed replay.items) ≡ changes history
+  pub lasts : (slot : SlotId) → last_in slot replay.stays.items ≡ last_at history slot
+
+-- the greatest number of a caller, or 0
+abbrev pub most_caller : List Entry → ℕ
+most_caller [] = 0
+most_caller (entry ∷ history) = max entry.caller (most_caller history)
+
+-- and it knows the greatest number of a caller
+pub record Shows (replay : Replay) (history : List Entry) : Type 0 where
+  pub items : published [] (listed replay.items) ≡ changes history
+  pub lasts : (slot : SlotId) → last_in slot replay.stays.items ≡ last_at history slot
+  pub most : replay.most_caller ≡ most_caller history
 
 -- these items stand behind those of before
 abbrev pub Adds : Replay → Replay → List Item → Type 0

@@ -1,6 +1,11 @@
-//! What the entries of a journal publish of the sessions, in order.
-ghost use Rattle.std.specs.Prelude.{◌≡◌, ◌∷◌, ◌++◌, [], OnOk};
-ghost use Rattle.grid_replay.specs.Replays.{Adds, Ends, Puts, Shows, all_off, removals_in};
+//! What the entries of a journal publish of the sessions, in order, and which session was at a slot last.
+ghost use Rattle.std.specs.Prelude.{◌≡◌, ◌∷◌, ◌++◌, max, [], List, OnOk};
+ghost use Rattle.grid_types.specs.declared.entry.Entry.{Entry};
+ghost use Rattle.grid_types.specs.declared.names.SlotId.{SlotId};
+ghost use Rattle.grid_types.specs.Slots.{slot_eq};
+ghost use Rattle.grid_replay.specs.Lasts.{Leaves, LeavesOver, last_at, last_in};
+ghost use Rattle.grid_ledger.specs.LedgerStands.{Hears};
+ghost use Rattle.grid_replay.specs.Replays.{Adds, Ends, Follows, Puts, Shows, all_off, most_caller, removals_in};
 
 use grid_ledger::{GridLedger, Listener};
 use grid_types::{Change, NoMemory, ReqNo, SessionId, SlotId, history_laws};
@@ -22,10 +27,40 @@ fn push_removals(uses: &[SlotUse], items: &mut Items) -> Result<(), NoMemory>
     Ok(())
 }
 
-/// The items that a history publishes, the oldest first.
+/// A session was bound to the slot, or a start that failed left it there.
+#[derive(Clone, Copy, Debug, PartialEq, Eq)]
+struct Stay {
+    slot: SlotId,
+    session: SessionId,
+}
+
+/// Whether it is one at this slot.
+fn is_at(slot: SlotId, stay: &Stay) -> bool
+    ensures { result ≡ slot_eq stay.now.slot slot }
+{
+    stay.slot.node == slot.node && stay.slot.index == slot.index
+}
+
+/// The session of the last one at the slot.
+fn last_in(slot: SlotId, stays: &[Stay]) -> Option<SessionId>
+    ensures { result ≡ last_in slot stays.now }
+{
+    let mut last = None;
+    for stay in stays {
+        if is_at(slot, stay) {
+            last = Some(stay.session);
+        }
+    }
+    last
+}
+
+/// The items that a history publishes, the oldest first, the sessions that were at slots, in order, and the greatest number of
+/// a caller, or 0.
 #[derive(Debug, Drop)]
 pub struct Replay {
     items: Items,
+    stays: Vec<Stay>,
+    most_caller: u64,
 }
 
 impl Replay {
@@ -35,6 +70,8 @@ impl Replay {
     {
         Replay {
             items: Items::new(alloc),
+            stays: Vec::new(alloc),
+            most_caller: 0,
         }
     }
 
@@ -45,8 +82,38 @@ impl Replay {
         self.items.items()
     }
 
+    /// The session that was at the slot last: bound to it, or left there by a start that failed. Of a slot that is closing it is
+    /// the one that is to end.
+    pub fn last_at(&self, slot: SlotId) -> Option<SessionId>
+        ensures { (H : List Entry) → Shows self.now H → result ≡ last_at H slot }
+    {
+        last_in(slot, self.stays.as_slice())
+    }
+
+    /// The greatest number of a caller, or 0 where there is none.
+    pub fn most_caller(&self) -> u64
+        ensures { (H : List Entry) → Shows self.now H → result ≡ most_caller H }
+    {
+        self.most_caller
+    }
+
+    /// The session is at the slot from now on.
+    fn stay(&mut self, slot: SlotId, session: SessionId) -> Result<(), NoMemory>
+        ensures items { self.new.items ≡ self.old.items }
+        ensures stays { OnOk result (self.new.stays.items
+            ≡ self.old.stays.items ++ (record { slot = slot; session = session }) ∷ []) }
+        ensures most { self.new.most_caller ≡ self.old.most_caller }
+    {
+        match self.stays.push(Stay { slot, session }) {
+            Ok(()) => Ok(()),
+            Err(_) => Err(NoMemory),
+        }
+    }
+
     fn put(&mut self, item: Item) -> Result<(), NoMemory>
-        ensures { OnOk result (self.new.items ≡ self.old.items ++ item ∷ []) }
+        ensures items { OnOk result (self.new.items ≡ self.old.items ++ item ∷ []) }
+        ensures stays { self.new.stays.items ≡ self.old.stays.items }
+        ensures most { self.new.most_caller ≡ self.old.most_caller }
     {
         match self.items.push(item) {
             Ok(()) => Ok(()),
@@ -54,7 +121,7 @@ impl Replay {
         }
     }
 
-    /// The session is bound to the slot.
+    /// The session is shown in the slot.
     fn show(
         &mut self,
         ledger: &GridLedger,
@@ -62,7 +129,9 @@ impl Replay {
         slot: SlotId,
         session: SessionId,
     ) -> Result<(), NoMemory>
-        ensures { OnOk result (Puts self.old self.new ledger.now request slot session) }
+        ensures puts { OnOk result (Puts self.old self.new ledger.now request slot session) }
+        ensures stays { self.new.stays.items ≡ self.old.stays.items }
+        ensures most { self.new.most_caller ≡ self.old.most_caller }
     {
         match ledger.node_address(slot.node) {
             Some(address) => self.put(Item::Put {
@@ -78,7 +147,9 @@ impl Replay {
 
     /// The session of a live binding ends.
     fn remove(&mut self, ledger: &GridLedger, binding: ReqNo) -> Result<(), NoMemory>
-        ensures { OnOk result (Ends self.old self.new ledger.now binding) }
+        ensures ends { OnOk result (Ends self.old self.new ledger.now binding) }
+        ensures stays { self.new.stays.items ≡ self.old.stays.items }
+        ensures most { self.new.most_caller ≡ self.old.most_caller }
     {
         match ledger.session_of(binding) {
             Some(session) => self.put(Item::Removal(session)),
@@ -89,18 +160,48 @@ impl Replay {
 
     /// The sessions that run in the slots end.
     fn remove_all(&mut self, uses: &[SlotUse]) -> Result<(), NoMemory>
-        ensures { OnOk result (Adds self.old self.new (removals_in uses.now)) }
+        ensures adds { OnOk result (Adds self.old self.new (removals_in uses.now)) }
+        ensures stays { self.new.stays.items ≡ self.old.stays.items }
+        ensures most { self.new.most_caller ≡ self.old.most_caller }
     {
         push_removals(uses, &mut self.items)
     }
-}
 
-impl Listener for Replay {
-    ghost use Rattle.grid_replay.specs.Replays.{Shows};
+    /// The session is bound to the slot.
+    fn bind(
+        &mut self,
+        ledger: &GridLedger,
+        request: ReqNo,
+        slot: SlotId,
+        session: SessionId,
+    ) -> Result<(), NoMemory>
+        ensures puts { OnOk result (Puts self.old self.new ledger.now request slot session) }
+        ensures leaves { OnOk result (Leaves self.old.stays.items self.new.stays.items
+            slot session) }
+        ensures most { self.new.most_caller ≡ self.old.most_caller }
+    {
+        self.show(ledger, request, slot, session)?;
+        self.stay(slot, session)
+    }
 
-    ghost heard = { λ r H. Shows r H };
+    /// A start failed at the slot, and perhaps left a session there.
+    fn leave(&mut self, slot: SlotId, orphan: Option<SessionId>) -> Result<(), NoMemory>
+        ensures items { self.new.items ≡ self.old.items }
+        ensures leaves { OnOk result (LeavesOver self.old.stays.items self.new.stays.items
+            slot orphan) }
+        ensures most { self.new.most_caller ≡ self.old.most_caller }
+    {
+        match orphan {
+            Some(session) => self.stay(slot, session),
+            None => Ok(()),
+        }
+    }
 
-    fn hear(&mut self, ledger: &GridLedger, _caller: u64, change: &Change) -> Result<(), NoMemory> {
+    /// The change follows the history that the ledger stands for.
+    fn follow(&mut self, ledger: &GridLedger, caller: u64, change: &Change) -> Result<(), NoMemory>
+        ensures hears { OnOk result (Hears Follows self.old self.new ledger.now caller change.now) }
+        ensures most { self.new.most_caller ≡ self.old.most_caller }
+    {
         // For the proof alone: what a permitted change tells.
         history_laws();
         match change {
@@ -109,10 +210,36 @@ impl Listener for Replay {
                 slot,
                 session,
                 ..
-            } => self.show(ledger, *request, *slot, *session),
+            } => self.bind(ledger, *request, *slot, *session),
+            Change::Failed { slot, orphan, .. } => self.leave(*slot, *orphan),
             Change::Ended { binding, .. } => self.remove(ledger, *binding),
             Change::Lapsed { node, .. } => self.remove_all(ledger.uses(*node)),
             _ => Ok(()),
+        }
+    }
+
+    /// An entry is the caller's.
+    fn note_caller(&mut self, caller: u64)
+        ensures items { self.new.items ≡ self.old.items }
+        ensures stays { self.new.stays.items ≡ self.old.stays.items }
+        ensures most { self.new.most_caller ≡ max caller self.old.most_caller }
+    {
+        self.most_caller = caller.max(self.most_caller);
+    }
+}
+
+impl Listener for Replay {
+    ghost use Rattle.grid_replay.specs.Replays.{Shows};
+
+    ghost heard = { λ r H. Shows r H };
+
+    fn hear(&mut self, ledger: &GridLedger, caller: u64, change: &Change) -> Result<(), NoMemory> {
+        match self.follow(ledger, caller, change) {
+            Ok(()) => {
+                self.note_caller(caller);
+                Ok(())
+            }
+            Err(fault) => Err(fault),
         }
     }
 }

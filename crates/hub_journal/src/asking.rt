@@ -5,7 +5,6 @@ use grid_opening::Ender;
 use grid_outside::{ExchangeFault, NodeLink};
 use grid_replay::Replay;
 use grid_types::{NodeAddress, SessionId, SlotId};
-use map_view::Item;
 use node_client::{SessionPath, quit_request};
 use std::alloc::Global;
 
@@ -15,23 +14,6 @@ pub(crate) struct Asking<N: NodeLink + Drop> {
     alloc: Global,
     nodes: N,
     lost: Vec<NodeAddress>,
-}
-
-/// The session that was put at the slot last.
-fn last_at(items: &[Item], slot: SlotId) -> Option<SessionId> {
-    for item in items.iter().rev() {
-        if let Item::Put {
-            session,
-            slot: place,
-            ..
-        } = item
-        {
-            if *place == slot {
-                return Some(*session);
-            }
-        }
-    }
-    None
 }
 
 impl<N: NodeLink + Drop> Asking<N> {
@@ -59,7 +41,7 @@ impl<N: NodeLink + Drop> Asking<N> {
 impl<N: NodeLink + Drop> Ender<Replay> for Asking<N> {
     fn end(&mut self, ledger: &GridLedger, listener: &Replay, slot: SlotId) {
         let (Some(session), Some(address)) = (
-            last_at(listener.items(), slot),
+            listener.last_at(slot),
             ledger.node_address(slot.node),
         ) else {
             return;

@@ -8,8 +8,8 @@
 //!   no journal, or the journal of a hub with other options, is left as it is.
 //! - Where nobody is listed and nothing is under way, a journal that has entries is put aside under a name with a number, and a new
 //!   one begins with the next numbers: then no number is given twice, and other options may begin.
-//! - A session whose slot was closing is asked to end at its node, once, where that can be reached. The session is found by the last
-//!   put at its slot. One that was left over by a start that failed is not known any more, and runs until its node ends it.
+//! - A session whose slot was closing is asked to end at its node, once, where that can be reached: one that ended, or that a start
+//!   which failed left over there.
 //! - Before it tells anything it reads the journal from which the hub goes on a second time, beside the hub, so that what it tells of
 //!   a session or a node of before has its names. Where it can't read that, these are left out.
 //! - The thread that tells also makes what was appended stay on the disk, so that no turn waits for a disk.
@@ -20,8 +20,7 @@ mod asking;
 mod beginning;
 mod beside;
 mod file_hub;
-mod input;
-mod options;
+mod file_store;
 mod sights;
 mod telling;
 mod trouble;

@@ -2,6 +2,7 @@
 
 use grid_check::Verdict;
 use grid_opening::OpeningFault;
+use hub_store::HubOption;
 use std::{fmt, io};
 
 /// Why a hub does not go on from its journal.
@@ -21,6 +22,17 @@ pub enum Trouble {
     Opening(OpeningFault),
     /// There was no memory.
     Memory,
+}
+
+/// The option as a hub's words name it.
+pub(crate) fn name_of(option: HubOption) -> &'static str {
+    match option {
+        HubOption::RequestTimeout => "--session-request-timeout",
+        HubOption::SessionTimeout => "--session-timeout",
+        HubOption::QueueLimit => "--queue-limit",
+        HubOption::Unsupported => "--reject-unsupported-caps",
+        HubOption::Lapse => "time without a node's beat",
+    }
 }
 
 /// What is wrong with the bytes, in words.

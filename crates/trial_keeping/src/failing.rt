@@ -18,7 +18,7 @@ use trial_desk::{caps_of, choices_of, registration_of};
 const APPENDS: u64 = 7;
 
 /// Lists a node, queues a request, binds a session for it, uses that and ends it. Whether each call did so.
-fn play<R: Wait>(rt: &R, alloc: Global, hub: &SharedHub, pass: &mut Pass) -> Option<()>
+pub(crate) fn play<R: Wait>(rt: &R, alloc: Global, hub: &SharedHub, pass: &mut Pass) -> Option<()>
     requires { IsOf hub.now pass.old }
     ensures { IsOf hub.now pass.new }
 {
@@ -61,7 +61,7 @@ fn kept<R: Wait>(rt: &R, alloc: Global, part: usize, fails: &[u64]) -> Option<By
 }
 
 /// What a check says of the bytes.
-fn verdict(alloc: Global, bytes: Bytes) -> Option<Verdict> {
+pub(crate) fn verdict(alloc: Global, bytes: Bytes) -> Option<Verdict> {
     check(alloc, &mut MemSource::new(bytes, 64, Vec::new(alloc))).ok()
 }
 

@@ -25,7 +25,7 @@ resume-requires-clause-start g c =
     let tables = subst (λ (z : HubConfig). of_tables.Stands z c.into_tables.result h.history) configured (c.into_tables.ensures h.history h.stands) in
     let stands = c.resume-core.ensures.stands h.history tables (subst (λ (z : HubConfig). legal z h.history ≡ true) configured h.stands.is_legal) in
     let shows = on_ok c.show_all.result fine c.show_all.ensures.shown ∙ (ap (λ (z : List lookup.Item). lookup.published z (listed c.items.result.now)) c.in_ok-map.ensures.0
-    ∙ (ap (λ (z : List map_item.Item). lookup.published [] (listed z)) c.items.ensures ∙ h.shows)) in record {
+    ∙ (ap (λ (z : List map_item.Item). lookup.published [] (listed z)) c.items.ensures ∙ h.shows.items)) in record {
       start = reverse h.history;
       core_stands = subst (λ (z : List Entry). Stands c.resume-core.result z) back stands;
       map_stands = record { shows = subst (λ (z : List Entry). published c.show_all.new.map ≡ changes z) back shows; none_pending = on_ok c.show_all.result fine c.show_all.ensures.none };
