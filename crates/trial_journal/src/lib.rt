@@ -8,8 +8,6 @@ mod openings;
 #[cfg(test)]
 mod plays;
 #[cfg(test)]
-mod reports;
-#[cfg(test)]
 mod simulations;
 #[cfg(test)]
 mod verdicts;

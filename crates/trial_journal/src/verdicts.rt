@@ -1,93 +1,75 @@
 //! Verdicts on small journals.
-use crate::entries::{ENTRIES, refused};
-use crate::plays::{fault, front_of, head, journal, put, told, verdict};
-use grid_check::{CheckFault, Verdict};
-use grid_types::{Change, Entry, NoMemory, SlotId};
-use std::test::Fail;
+use crate::entries::{HEAD, HISTORY};
+use crate::plays::{front_of, verdict};
+use grid_check::Verdict;
+use std::alloc::Global;
 
-#[test]
-fn a_head_alone_is_legal(rt: HostRuntime) -> Result<(), Fail> {
-    let alloc = rt.alloc();
-    let bytes = head(alloc).ok_or(NoMemory)?;
-    assert_eq!(rt; bytes.len(), 57);
-    let found = verdict(alloc, bytes.as_slice(), 65_536);
-    assert_eq!(rt; found, Some(Verdict::Legal { entries: 0 }));
-    Ok(())
-}
+/// Behind the head the entry that caller 0 frees slot 0 of node 1: a slot that is free is not freed.
+const FREED: &[u8] =
+    b"GRIDJ001\0\0\0\0\0\x04\x93\xe0\0\0\0\0\0\x04\x93\xe0\0\0\0\0\0\x01\xd4\xc0\0\0'\x10\0\0\0\0\x01\0\0\0\0\0\0\0\x01\0\0\0\0\0\x03\xa9\x80\0\0\0\0\0\0\0\0\x0f\0\0\0\x01\0\0";
 
-#[test]
-fn a_slot_that_is_free_is_not_freed(rt: HostRuntime) -> Result<(), Fail> {
-    let alloc = rt.alloc();
-    let mut bytes = head(alloc).ok_or(NoMemory)?;
-    let freed = Entry {
-        caller: 0,
-        change: Change::Freed {
-            slot: SlotId { node: 1, index: 0 },
-        },
-    };
-    put(alloc, &mut bytes, &freed).ok_or(NoMemory)?;
-    assert_eq!(rt; bytes.len(), 57 + 15);
-    let found = verdict(alloc, bytes.as_slice(), 1);
-    assert_eq!(rt; found, Some(Verdict::Illegal { entry: 0 }));
-    Ok(())
-}
+/// Behind the head nine bytes that begin no entry.
+const WORSE: &[u8] =
+    b"GRIDJ001\0\0\0\0\0\x04\x93\xe0\0\0\0\0\0\x04\x93\xe0\0\0\0\0\0\x01\xd4\xc0\0\0'\x10\0\0\0\0\x01\0\0\0\0\0\0\0\x01\0\0\0\0\0\x03\xa9\x80\0\0\0\0\0\0\0\0\x11";
 
-#[test]
-fn each_front_of_the_history_is_legal_and_one_entry_more_may_not_follow(
-    rt: HostRuntime,
-) -> Result<(), Fail> {
-    let alloc = rt.alloc();
-    for entries in 0..ENTRIES + 1 {
-        let mut bytes = journal(alloc, entries).ok_or(NoMemory)?;
-        let found = verdict(alloc, bytes.as_slice(), 64);
-        assert_eq!(rt; found, Some(Verdict::Legal { entries }));
-        if entries < ENTRIES {
-            let entry = refused(alloc, entries).ok_or(NoMemory)?;
-            put(alloc, &mut bytes, &entry).ok_or(NoMemory)?;
-            let found = verdict(alloc, bytes.as_slice(), 64);
-            assert_eq!(rt; found, Some(Verdict::Illegal { entry: entries }));
+/// Bytes, how many of them, and the verdict on these.
+const VERDICTS: &[(&[u8], usize, Verdict)] = &[
+    (HEAD, 57, Verdict::Legal { entries: 0 }),
+    (HEAD, 56, Verdict::Cut { at: 0 }),
+    (HEAD, 0, Verdict::Cut { at: 0 }),
+    (b"GRIDJ002", 8, Verdict::NotJournal),
+    (b"H", 1, Verdict::NotJournal),
+    (FREED, 72, Verdict::Illegal { entry: 0 }),
+    (FREED, 58, Verdict::Cut { at: 57 }),
+    (WORSE, 66, Verdict::Bad { at: 57 }),
+];
+
+fn are_so(alloc: Global, rows: &[(&[u8], usize, Verdict)]) -> bool {
+    for (bytes, count, wanted) in rows {
+        if verdict(alloc, front_of(bytes, *count), 9) != Some(*wanted) {
+            return false;
         }
     }
-    Ok(())
+    true
+}
+
+/// Whether the front is legal, and is not with the entry behind it that may not follow. Its entry is put behind it then.
+fn goes_on(
+    alloc: Global,
+    journal: &mut Vec<u8>,
+    entries: u64,
+    entry: &[u8],
+    refused: &[u8],
+) -> Option<bool> {
+    let length = journal.len();
+    let legal = verdict(alloc, journal.as_slice(), 64)?;
+    journal.extend_from_slice(refused).ok()?;
+    let illegal = verdict(alloc, journal.as_slice(), 64)?;
+    journal.truncate(length);
+    journal.extend_from_slice(entry).ok()?;
+    Some(legal == Verdict::Legal { entries } && illegal == Verdict::Illegal { entry: entries })
+}
+
+fn all_go_on(alloc: Global, journal: &mut Vec<u8>) -> Option<bool> {
+    journal.extend_from_slice(HEAD).ok()?;
+    let mut entries = 0u64;
+    for (entry, refused) in HISTORY {
+        if !goes_on(alloc, journal, entries, entry, refused)? {
+            return Some(false);
+        }
+        entries = entries.saturating_add(1);
+    }
+    let whole = verdict(alloc, journal.as_slice(), 64)?;
+    Some(whole == Verdict::Legal { entries: 21 })
 }
 
 #[test]
-fn bytes_that_are_no_journal(rt: HostRuntime) -> Result<(), Fail> {
-    let alloc = rt.alloc();
-    let bytes = journal(alloc, 2).ok_or(NoMemory)?;
-    let front = head(alloc).ok_or(NoMemory)?;
-    assert_eq!(rt; verdict(alloc, &[], 1), Some(Verdict::Cut { at: 0 }));
-    assert_eq!(rt;
-        verdict(alloc, front_of(front.as_slice(), 56), 9),
-        Some(Verdict::Cut { at: 0 })
-    );
-    assert_eq!(rt; verdict(alloc, b"GRIDJ002", 9), Some(Verdict::NotJournal));
-    assert_eq!(rt; verdict(alloc, b"H", 9), Some(Verdict::NotJournal));
-    assert_eq!(rt;
-        verdict(alloc, front_of(bytes.as_slice(), 58), 9),
-        Some(Verdict::Cut { at: 57 })
-    );
-    let mut worse = front;
-    worse.extend_from_slice(&[0, 0, 0, 0, 0, 0, 0, 0, 17])?;
-    assert_eq!(rt;
-        verdict(alloc, worse.as_slice(), 9),
-        Some(Verdict::Bad { at: 57 })
-    );
-    Ok(())
+fn each_front_of_the_history_is_legal_and_one_entry_more_may_not_follow(rt: HostRuntime) {
+    let so = all_go_on(rt.alloc(), &mut Vec::new(rt.alloc()));
+    assert!(rt; so == Some(true));
 }
 
 #[test]
-fn a_read_or_a_write_that_fails_is_told(rt: HostRuntime) -> Result<(), Fail> {
-    let alloc = rt.alloc();
-    let bytes = head(alloc).ok_or(NoMemory)?;
-    assert_eq!(rt; fault(alloc, bytes.as_slice(), 3), Some(CheckFault::Read));
-    let (status, line) = told(alloc, bytes.as_slice(), Vec::new(alloc)).ok_or(NoMemory)?;
-    assert_eq!(rt; status, 0);
-    assert_eq!(rt; line.as_slice(), b"legal: 0 entries\n".as_slice());
-    let mut fails = Vec::new(alloc);
-    fails.push(2)?;
-    let (status, line) = told(alloc, bytes.as_slice(), fails).ok_or(NoMemory)?;
-    assert_eq!(rt; status, 6);
-    assert_eq!(rt; line.as_slice(), b"legal:".as_slice());
-    Ok(())
+fn bytes_that_are_no_journal(rt: HostRuntime) {
+    assert!(rt; are_so(rt.alloc(), VERDICTS));
 }
