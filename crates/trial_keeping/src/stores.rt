@@ -119,7 +119,7 @@ impl Ender<Replay> for Asked {
 
 /// What came of an opening.
 #[derive(Drop)]
-struct Came {
+struct Told {
     fault: Option<StoreFault>,
     /// What the hub keeps.
     kept: Option<Bytes>,
@@ -148,7 +148,7 @@ fn note<R: Wait>(
     rt: &R,
     alloc: Global,
     opened: Result<(SharedHub, Pass), Unopened>,
-    came: &mut Came,
+    came: &mut Told,
 )
     requires { IfOk opened (λ r. IsOf r.0 r.1) }
 {
@@ -172,14 +172,14 @@ fn came<R: Wait>(
     bytes: &[u8],
     config: HubConfig,
     fails: &[u64],
-) -> Option<Came>
+) -> Option<Told>
     requires { IsValid config }
 {
     let mut planned = Vec::new(alloc);
     planned.extend_from_slice(fails).ok()?;
     let mut store = MemStore::new(alloc, Bytes::of(alloc, bytes).ok()?, 64, planned, Moment(7));
     let mut asked = Asked { session: None };
-    let mut came = Came {
+    let mut came = Told {
         fault: None,
         kept: None,
         node: None,
@@ -198,7 +198,7 @@ fn came<R: Wait>(
 }
 
 /// Whether a hub keeps a legal journal that begins with these bytes.
-fn keeps(alloc: Global, came: Came, front: &[u8]) -> bool {
+fn keeps(alloc: Global, came: Told, front: &[u8]) -> bool {
     let Some(kept) = came.kept else {
         return false;
     };
@@ -207,7 +207,7 @@ fn keeps(alloc: Global, came: Came, front: &[u8]) -> bool {
 }
 
 /// Whether the bytes are left as they are, for this reason.
-fn refuses(came: &Came, fault: StoreFault) -> bool {
+fn refuses(came: &Told, fault: StoreFault) -> bool {
     came.fault == Some(fault) && came.handed == 0 && came.aside.is_none()
 }
 
