@@ -1,8 +1,7 @@
 //! Connections to a node that are kept, by what the node sees of them.
-use crate::parts::request;
-use crate::sockets::{Told, address_of, came_so, listener};
-use crate::tcp_nodes::{Timed, rests};
-use grid_outside::{ExchangeFault, Gate, NodeLine, Reply};
+use crate::sockets::{Told, address_of, empty_address, listener};
+use crate::tcp_nodes::{Asking, Timed, are_given_up, begun, comes_so, rests};
+use grid_outside::Gate;
 use grid_sockets::TcpGate;
 use grid_types::NodeAddress;
 use std::alloc::Global;
@@ -189,14 +188,28 @@ const BOTH: &[&[Act]] = &[
     &[Hears(0, GET), Hears(1, POST), Says(0, OK), Says(1, OK)],
 ];
 
-/// Exchanges one after the other.
+/// What a gate is tried with.
 #[derive(Clone, Copy)]
 enum Table {
+    /// Exchanges one after the other.
     Kept,
     Stale,
     Broken,
     Closed,
+    /// Two seats that ask at once.
+    Both,
+    /// A node that says nothing, and none.
+    Silent,
 }
+
+const TABLES: &[Table] = &[
+    Table::Kept,
+    Table::Stale,
+    Table::Broken,
+    Table::Closed,
+    Table::Both,
+    Table::Silent,
+];
 
 fn exchanges(table: Table) -> &'static [Exchange] {
     match table {
@@ -204,6 +217,16 @@ fn exchanges(table: Table) -> &'static [Exchange] {
         Table::Stale => STALE,
         Table::Broken => BROKEN,
         Table::Closed => CLOSED,
+        Table::Both | Table::Silent => &[],
+    }
+}
+
+fn is_request(bytes: &[u8], wanted: &str, closes: bool) -> bool {
+    match str::from_utf8(bytes) {
+        Ok(text) => {
+            text.starts_with(wanted) && text.contains("\r\nConnection: close\r\n") == closes
+        }
+        Err(_) => false,
     }
 }
 
@@ -230,9 +253,7 @@ impl Node {
     fn hears(&mut self, number: usize, wanted: &str, closes: bool) -> Option<()> {
         let mut piece = [0; 512];
         let count = self.streams.get_mut(number)?.read(&mut piece).ok()?;
-        let text = str::from_utf8(piece.get(..count)?).ok()?;
-        let so = text.starts_with(wanted) && text.contains("\r\nConnection: close\r\n") == closes;
-        so.then_some(())
+        is_request(piece.get(..count)?, wanted, closes).then_some(())
     }
 
     fn says(&mut self, number: usize, text: &str) -> Option<()> {
@@ -253,25 +274,12 @@ impl Node {
     }
 }
 
-/// What came of an exchange so far.
-type Came = Option<Result<Reply, ExchangeFault>>;
-
-/// What came of the exchange, which has gone on as far as it can without the node.
-fn gone_on<G: Gate>(
-    alloc: Global,
-    gate: &mut G,
-    nodes: &mut G::N,
-    ready: &mut Vec<usize>,
-    so_far: Came,
-) -> Came {
-    let mut came = so_far;
+/// The exchange goes on as far as it can without the node.
+fn go_on<G: Gate>(alloc: Global, gate: &mut G, asking: &mut Asking<G::N>, ready: &mut Vec<usize>) {
     for _ in 0..4 {
-        if came.is_none() {
-            came = nodes.came(alloc);
-        }
+        asking.look(alloc);
         rests(gate, ready);
     }
-    came
 }
 
 /// The node does so, or sees it.
@@ -290,22 +298,22 @@ fn acts(node: &mut Node, at: &AtomicU64, act: Act) -> Option<()> {
     }
 }
 
-/// What came of an exchange once the node has done all of that.
-fn came_behind<G: Gate>(
+/// The node does all of that, and the exchange goes on.
+fn acts_all<G: Gate>(
     alloc: Global,
     gate: &mut G,
-    nodes: &mut G::N,
+    asking: &mut Asking<G::N>,
+    ready: &mut Vec<usize>,
     node: &mut Node,
     at: &AtomicU64,
     all: &[Act],
-) -> Option<Came> {
-    let mut ready = Vec::with_capacity(alloc, 4).ok()?;
-    let mut came = gone_on(alloc, gate, nodes, &mut ready, None);
+) -> Option<()> {
+    go_on(alloc, gate, asking, ready);
     for act in all {
         acts(node, at, *act)?;
-        came = gone_on(alloc, gate, nodes, &mut ready, came);
+        go_on(alloc, gate, asking, ready);
     }
-    Some(came)
+    Some(())
 }
 
 /// Whether the exchange goes so.
@@ -315,41 +323,52 @@ fn goes_so<G: Gate>(
     node: &mut Node,
     address: &NodeAddress,
     at: &AtomicU64,
-    table: Table,
-    index: usize,
-) -> Option<bool> {
-    let Exchange(place, method, target, all, told) = *exchanges(table).get(index)?;
-    let mut nodes = gate.nodes(place);
-    nodes.ask(
-        alloc,
-        address,
-        &request(method.as_bytes(), target.as_bytes(), b""),
-    );
-    let came = came_behind(alloc, gate, &mut nodes, node, at, all)?;
-    Some(came_so(&came?, told))
+    ready: &mut Vec<usize>,
+    exchange: &Exchange,
+) -> bool {
+    let Exchange(place, method, target, all, told) = *exchange;
+    let mut asking = begun(alloc, gate, place, address, method, target);
+    let acts = acts_all(alloc, gate, &mut asking, ready, node, at, all);
+    acts.is_some() && asking.is_told(told)
 }
 
 /// Whether all of them go so, one after the other, and no more connections come.
-fn all_go_so<R: Net<Listener = TcpListener, Stream = TcpStream> + Copy + Send + Drop>(
-    rt: R,
+fn all_go_so<G: Gate>(
     alloc: Global,
+    gate: &mut G,
+    node: &mut Node,
+    address: &NodeAddress,
+    at: &AtomicU64,
+    ready: &mut Vec<usize>,
     table: Table,
-) -> Option<bool> {
-    let at = AtomicU64::new(0);
-    let (listener, port) = listener(&rt)?;
-    let address = address_of(alloc, "127.0.0.1", port)?;
-    let mut gate = TcpGate::new(Timed { rt, at: &at }, alloc).ok()?;
-    let mut node = Node {
-        listener,
-        streams: Vec::new(alloc),
-    };
-    for index in 0..exchanges(table).len() {
-        if !goes_so(alloc, &mut gate, &mut node, &address, &at, table, index)? {
-            return Some(false);
+) -> bool {
+    for exchange in exchanges(table) {
+        if !goes_so(alloc, gate, node, address, at, ready, exchange) {
+            return false;
         }
     }
-    node.listener.set_nonblocking(true).ok()?;
-    Some(node.listener.accept().is_err())
+    node.listener.set_nonblocking(true).is_ok() && node.listener.accept().is_err()
+}
+
+/// The node does all of that, and both exchanges go on.
+fn acts_beside<G: Gate>(
+    alloc: Global,
+    gate: &mut G,
+    one: &mut Asking<G::N>,
+    other: &mut Asking<G::N>,
+    ready: &mut Vec<usize>,
+    node: &mut Node,
+    at: &AtomicU64,
+    all: &[Act],
+) -> Option<()> {
+    go_on(alloc, gate, one, ready);
+    go_on(alloc, gate, other, ready);
+    for act in all {
+        acts(node, at, *act)?;
+        go_on(alloc, gate, one, ready);
+        go_on(alloc, gate, other, ready);
+    }
+    Some(())
 }
 
 /// Whether the exchanges of two seats go so, beside each other.
@@ -359,29 +378,61 @@ fn both_go_so<G: Gate>(
     node: &mut Node,
     address: &NodeAddress,
     at: &AtomicU64,
-    index: usize,
-) -> Option<bool> {
-    let all = *BOTH.get(index)?;
-    let mut ready = Vec::with_capacity(alloc, 4).ok()?;
-    let mut one = gate.nodes(3);
-    let mut other = gate.nodes(4);
-    one.ask(alloc, address, &request(b"GET", URL.as_bytes(), b""));
-    other.ask(alloc, address, &request(b"POST", URL.as_bytes(), b""));
-    let mut first = gone_on(alloc, gate, &mut one, &mut ready, None);
-    let mut second = gone_on(alloc, gate, &mut other, &mut ready, None);
-    for act in all {
-        acts(node, at, *act)?;
-        first = gone_on(alloc, gate, &mut one, &mut ready, first);
-        second = gone_on(alloc, gate, &mut other, &mut ready, second);
-    }
-    Some(came_so(&first?, HI) && came_so(&second?, HI))
+    ready: &mut Vec<usize>,
+    all: &[Act],
+) -> bool {
+    let mut one = begun(alloc, gate, 3, address, "GET", URL);
+    let mut other = begun(alloc, gate, 4, address, "POST", URL);
+    let acts = acts_beside(alloc, gate, &mut one, &mut other, ready, node, at, all);
+    acts.is_some() && one.is_told(HI) && other.is_told(HI)
 }
 
-fn go_beside<R: Net<Listener = TcpListener, Stream = TcpStream> + Copy + Send + Drop>(
+fn go_beside<G: Gate>(
+    alloc: Global,
+    gate: &mut G,
+    node: &mut Node,
+    address: &NodeAddress,
+    at: &AtomicU64,
+    ready: &mut Vec<usize>,
+) -> bool {
+    for all in BOTH {
+        if !both_go_so(alloc, gate, node, address, at, ready, all) {
+            return false;
+        }
+    }
+    true
+}
+
+/// Whether the gate goes so, with a node at this address and none at the other.
+fn goes_at<G: Gate>(
+    alloc: Global,
+    gate: &mut G,
+    node: &mut Node,
+    address: &NodeAddress,
+    nobody: &NodeAddress,
+    at: &AtomicU64,
+    table: Table,
+) -> bool {
+    let Ok(mut ready) = Vec::with_capacity(alloc, 4) else {
+        return false;
+    };
+    match table {
+        Table::Both => go_beside(alloc, gate, node, address, at, &mut ready),
+        Table::Silent => {
+            are_given_up(alloc, gate, address, &mut ready, at)
+                && comes_so(alloc, gate, nobody, Told::Nothing)
+        }
+        _ => all_go_so(alloc, gate, node, address, at, &mut ready, table),
+    }
+}
+
+fn goes<R: Net<Listener = TcpListener, Stream = TcpStream> + Copy + Send + Drop>(
     rt: R,
     alloc: Global,
+    table: Table,
 ) -> Option<bool> {
     let at = AtomicU64::new(0);
+    let nobody = empty_address(&rt, alloc)?;
     let (listener, port) = listener(&rt)?;
     let address = address_of(alloc, "127.0.0.1", port)?;
     let mut gate = TcpGate::new(Timed { rt, at: &at }, alloc).ok()?;
@@ -389,40 +440,13 @@ fn go_beside<R: Net<Listener = TcpListener, Stream = TcpStream> + Copy + Send + 
         listener,
         streams: Vec::new(alloc),
     };
-    for index in 0..BOTH.len() {
-        if !both_go_so(alloc, &mut gate, &mut node, &address, &at, index)? {
-            return Some(false);
-        }
+    Some(goes_at(alloc, &mut gate, &mut node, &address, &nobody, &at, table))
+}
+
+#[test]
+fn connections_to_nodes_are_kept(rt: HostRuntime) {
+    for table in TABLES {
+        let so = goes(rt, rt.alloc(), *table);
+        assert!(rt; so == Some(true));
     }
-    Some(true)
-}
-
-#[test]
-fn several_connections_are_kept_at_once(rt: HostRuntime) {
-    let so = go_beside(rt, rt.alloc());
-    assert!(rt; so == Some(true));
-}
-
-#[test]
-fn a_connection_to_a_node_is_used_again(rt: HostRuntime) {
-    let so = all_go_so(rt, rt.alloc(), Table::Kept);
-    assert!(rt; so == Some(true));
-}
-
-#[test]
-fn a_stale_connection_costs_nothing(rt: HostRuntime) {
-    let so = all_go_so(rt, rt.alloc(), Table::Stale);
-    assert!(rt; so == Some(true));
-}
-
-#[test]
-fn no_request_that_changes_something_is_sent_again(rt: HostRuntime) {
-    let so = all_go_so(rt, rt.alloc(), Table::Broken);
-    assert!(rt; so == Some(true));
-}
-
-#[test]
-fn a_connection_is_kept_for_a_second_at_most(rt: HostRuntime) {
-    let so = all_go_so(rt, rt.alloc(), Table::Closed);
-    assert!(rt; so == Some(true));
 }

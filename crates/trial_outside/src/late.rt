@@ -1,7 +1,6 @@
 //! A start that takes longer than it may.
-use crate::parts::{is_unreachable, request};
 use crate::sockets::{address_of, listener};
-use crate::tcp_nodes::{Timed, rests};
+use crate::tcp_nodes::{Asking, Timed, is_given_up, rests};
 use grid_outside::{Gate, NodeLine};
 use grid_sockets::TcpGate;
 use grid_types::NodeAddress;
@@ -59,7 +58,26 @@ fn makes_late<R: Threads + Clock>(
     Some(starts && late && ends)
 }
 
-/// Whether a start that may take 30 s is given up after these and no sooner. The time goes on afterwards.
+/// A start that may take 30 s.
+fn begun_within<G: Gate>(alloc: Global, gate: &mut G, address: &NodeAddress) -> Asking<G::N> {
+    let mut nodes = gate.nodes(3);
+    nodes.allow(30_000);
+    Asking::begin(alloc, nodes, address, "POST", "/session", "{}")
+}
+
+/// Whether the session is ended while the time goes on.
+fn ends<G: Gate>(gate: &mut G, ready: &mut Vec<usize>, at: &AtomicU64, ended: &AtomicBool) -> bool {
+    for second in 31..231 {
+        if ended.load(Ordering::SeqCst) {
+            return true;
+        }
+        at.store(second, Ordering::SeqCst);
+        rests(gate, ready);
+    }
+    false
+}
+
+/// Whether the start is given up after these and no sooner, and its session ended afterwards.
 fn gives_up<G: Gate>(
     alloc: Global,
     gate: &mut G,
@@ -69,27 +87,10 @@ fn gives_up<G: Gate>(
     given_up: &AtomicBool,
     ended: &AtomicBool,
 ) -> bool {
-    let mut nodes = gate.nodes(3);
-    nodes.allow(30_000);
-    nodes.ask(alloc, address, &request(b"POST", b"/session", b"{}"));
-    let mut goes_on = true;
-    for _ in 0..5 {
-        goes_on = goes_on && nodes.came(alloc).is_none();
-        rests(gate, ready);
-    }
-    at.store(29, Ordering::SeqCst);
-    goes_on = goes_on && nodes.came(alloc).is_none();
-    at.store(30, Ordering::SeqCst);
-    let is_late = nodes.came(alloc).is_some_and(|came| is_unreachable(&came));
+    let mut asking = begun_within(alloc, gate, address);
+    let is_late = is_given_up(alloc, gate, &mut asking, ready, at, 30);
     given_up.store(true, Ordering::SeqCst);
-    for second in 31..231 {
-        if ended.load(Ordering::SeqCst) {
-            return goes_on && is_late;
-        }
-        at.store(second, Ordering::SeqCst);
-        rests(gate, ready);
-    }
-    false
+    ends(gate, ready, at, ended) && is_late
 }
 
 /// Comes to the node's door as often as it may still wait for somebody there.

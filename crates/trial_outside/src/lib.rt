@@ -1,12 +1,8 @@
-//! What lies outside the hub: memory objects, sockets, the loop node, a node's signs, the words of a play.
+//! What lies outside the hub: sockets, a line that is waited for, the loop node, the words of a play.
 #![tactic(auto)]
 
 #[cfg(test)]
 mod bursts;
-#[cfg(test)]
-mod clocks;
-#[cfg(test)]
-mod doors;
 #[cfg(test)]
 mod kept;
 #[cfg(test)]
@@ -14,23 +10,17 @@ mod late;
 #[cfg(test)]
 mod lines;
 #[cfg(test)]
-mod linked;
-#[cfg(test)]
 mod links;
 #[cfg(test)]
 mod looping;
 #[cfg(test)]
-mod memory;
-#[cfg(test)]
-mod nodes;
+mod outputs;
 #[cfg(test)]
 mod parts;
 #[cfg(test)]
 mod plays;
 #[cfg(test)]
 mod serving;
-#[cfg(test)]
-mod signs;
 #[cfg(test)]
 mod sockets;
 #[cfg(test)]

@@ -7,7 +7,6 @@ use grid_types::{NoMemory, Text};
 use http_frames::{NodeReply, NodeRequest};
 use loop_node::LoopNode;
 use std::alloc::Global;
-use std::process::Abort;
 
 /// Node 2 with chrome 126.0, one slot, and one start to refuse.
 pub(crate) fn node(alloc: Global) -> Result<LoopNode, NoMemory>
@@ -207,97 +206,25 @@ fn is_told(reply: &NodeReply, told: Told) -> bool {
 }
 
 /// Whether the request is answered so.
-fn answers(
-    alloc: Global,
-    node: &mut LoopNode,
-    request: &NodeRequest<'_>,
-    told: Told,
-) -> Result<bool, NoMemory> {
-    let reply = node.answer(alloc, request)?;
-    Ok(is_told(&reply, told))
-}
-
-fn answers_row(alloc: Global, node: &mut LoopNode, row: &Row) -> Result<bool, NoMemory> {
+fn answers(alloc: Global, node: &mut LoopNode, row: &Row) -> Option<bool> {
     let request = request(row.0.as_bytes(), row.1.as_bytes(), row.2.as_bytes());
-    answers(alloc, node, &request, row.3)
+    let reply = node.answer(alloc, &request).ok()?;
+    Some(is_told(&reply, row.3))
 }
 
-fn answers_all(
-    rt: &impl Abort,
-    alloc: Global,
-    node: &mut LoopNode,
-    rows: &[Row],
-) -> Result<(), NoMemory> {
+fn all_are_answered(alloc: Global, node: &mut LoopNode, rows: &[Row]) -> Option<bool> {
     for row in rows {
-        let so = answers_row(alloc, node, row)?;
-        assert!(rt; so, "{}", row.1);
+        if !answers(alloc, node, row)? {
+            return Some(false);
+        }
     }
-    Ok(())
+    Some(true)
 }
 
 #[test]
 fn a_node_answers_each_kind_of_request(rt: HostRuntime) -> Result<(), NoMemory> {
     let mut node = node(rt.alloc())?;
-    answers_all(&rt, rt.alloc(), &mut node, ROWS)
-}
-
-/// A path that is no text is none that a command has.
-#[test]
-fn a_target_may_be_any_bytes(rt: HostRuntime) -> Result<(), NoMemory> {
-    let mut node = node(rt.alloc())?;
-    let request = request(b"GET", b"/session/\xff/url", b"");
-    let so = answers(rt.alloc(), &mut node, &request, NO_COMMAND)?;
-    assert!(rt; so);
-    Ok(())
-}
-
-fn put(text: &mut Vec<u8>, piece: &[u8]) -> Result<(), NoMemory> {
-    match text.extend_from_slice(piece) {
-        Ok(()) => Ok(()),
-        Err(_) => Err(NoMemory),
-    }
-}
-
-fn put_member(alloc: Global, text: &mut Vec<u8>, number: u32) -> Result<(), NoMemory> {
-    match format!(in alloc; ",\"{number}\":0") {
-        Ok(member) => put(text, member.as_bytes()),
-        Err(_) => Err(NoMemory),
-    }
-}
-
-/// An object with so many members and one more.
-fn object_of(alloc: Global, more: u32) -> Result<Vec<u8>, NoMemory> {
-    let mut text = Vec::new(alloc);
-    put(&mut text, b"{\"a\":0")?;
-    for number in 0..more {
-        put_member(alloc, &mut text, number)?;
-    }
-    put(&mut text, b"}")?;
-    Ok(text)
-}
-
-fn starts_with(
-    alloc: Global,
-    node: &mut LoopNode,
-    more: u32,
-    told: Told,
-) -> Result<bool, NoMemory> {
-    let body = object_of(alloc, more)?;
-    answers(
-        alloc,
-        node,
-        &request(b"POST", b"/session", body.as_slice()),
-        told,
-    )
-}
-
-/// 1,024 members are an object, and 1,025 are none.
-#[test]
-fn a_body_may_have_so_many_members(rt: HostRuntime) -> Result<(), NoMemory> {
-    let mut node = node(rt.alloc())?;
-    let none = starts_with(rt.alloc(), &mut node, 1_024, NO_OBJECT)?;
-    assert!(rt; none);
-    let object = starts_with(rt.alloc(), &mut node, 1_023, REFUSED)?;
-    assert!(rt; object);
+    let so = all_are_answered(rt.alloc(), &mut node, ROWS);
+    assert!(rt; so == Some(true));
     Ok(())
 }

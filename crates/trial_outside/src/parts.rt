@@ -1,5 +1,5 @@
 //! What several trials are made of.
-use grid_outside::{ExchangeFault, MemLink, MemSink, MemSource, NodeReply, Reply};
+use grid_outside::{MemLink, MemSink, MemSource};
 use grid_types::{Bytes, NoMemory};
 use http_frames::NodeRequest;
 use std::alloc::Global;
@@ -38,30 +38,10 @@ pub(crate) fn request<'a>(method: &'a [u8], target: &'a [u8], body: &'a [u8]) ->
     }
 }
 
-/// A reply without headers.
-pub(crate) fn reply(alloc: Global, status: u16, body: &str) -> Result<Reply, NoMemory> {
-    Ok(Reply::Http(NodeReply {
-        status,
-        reason: Bytes::of(alloc, b"R")?,
-        content_type: None,
-        content_encoding: None,
-        cache_control: None,
-        body: Bytes::of(alloc, body.as_bytes())?,
-    }))
-}
-
 /// Whether the value is there and is this.
 pub(crate) fn is(value: &Option<Bytes>, wanted: &str) -> bool {
     match value {
         Some(value) => value.as_bytes() == wanted.as_bytes(),
         None => false,
-    }
-}
-
-/// Whether no node was reached.
-pub(crate) fn is_unreachable(came: &Result<Reply, ExchangeFault>) -> bool {
-    match came {
-        Err(fault) => *fault == ExchangeFault::Unreachable,
-        Ok(_) => false,
     }
 }

@@ -1,7 +1,6 @@
 //! The outside over TCP.
-use crate::doors::closed;
 use crate::links::{reads, writes};
-use crate::parts::{is_unreachable, request};
+use crate::parts::request;
 use grid_outside::{AwaitedLink, Clock, Door, ExchangeFault, Link, NodeLink, Reply};
 use grid_sockets::{TcpDoor, TcpNodes};
 use grid_types::NodeAddress;
@@ -52,6 +51,14 @@ pub(crate) fn next_link<D: Door>(alloc: Global, door: &mut D) -> Option<AwaitedL
     match door.accept() {
         Ok(Some(link)) => AwaitedLink::new(alloc, gate, link).ok(),
         _ => None,
+    }
+}
+
+/// Whether it is closed.
+fn closed<D: Door>(door: &mut D) -> bool {
+    match door.accept() {
+        Ok(link) => link.is_none(),
+        Err(_) => false,
     }
 }
 
@@ -118,8 +125,12 @@ pub(crate) type Row = (&'static str, &'static str, Told);
 pub(crate) enum Told {
     /// A reply with this body.
     Http(&'static str),
+    /// A reply whose body has so many bytes.
+    Long(usize),
     /// These bytes.
     NotHttp(&'static str),
+    /// None: no node was reached.
+    Nothing,
 }
 
 /// A reply, by a name too, and what is none, also since it is cut off.
@@ -144,6 +155,7 @@ pub(crate) const ROWS: &[Row] = &[
 fn is_told(reply: &Reply, told: Told) -> bool {
     match (reply, told) {
         (Reply::Http(reply), Told::Http(body)) => reply.body.as_bytes() == body.as_bytes(),
+        (Reply::Http(reply), Told::Long(count)) => reply.body.as_bytes().len() == count,
         (Reply::NotHttp(bytes), Told::NotHttp(text)) => bytes.as_bytes() == text.as_bytes(),
         _ => false,
     }
@@ -152,7 +164,8 @@ fn is_told(reply: &Reply, told: Told) -> bool {
 pub(crate) fn came_so(came: &Result<Reply, ExchangeFault>, told: Told) -> bool {
     match came {
         Ok(reply) => is_told(reply, told),
-        Err(_) => false,
+        Err(ExchangeFault::Unreachable) => matches!(told, Told::Nothing),
+        Err(ExchangeFault::Memory) => false,
     }
 }
 
@@ -161,22 +174,13 @@ pub(crate) fn address_of(alloc: Global, host: &str, port: u16) -> Option<NodeAdd
     NodeAddress::from_bytes(address.as_bytes())
 }
 
-/// What comes of a request to a node at the address that replies so, where it is asked as it is to be.
-fn asked<R: Threads + Net<Listener = TcpListener, Stream = TcpStream> + Copy + Drop>(
-    rt: R,
-    alloc: Global,
-    listener: &TcpListener,
-    address: &NodeAddress,
-    reply: &[u8],
-) -> (bool, Result<Reply, ExchangeFault>) {
-    let mut nodes = TcpNodes::new(rt);
-    thread::join(
-        &rt,
-        || answers_once(listener, reply),
-        || nodes.exchange(alloc, address, &request(b"GET", b"/status", b"")),
-    )
+/// Whether this comes of a request to a node at the address.
+fn comes_so<N: NodeLink>(alloc: Global, nodes: &mut N, address: &NodeAddress, told: Told) -> bool {
+    let came = nodes.exchange(alloc, address, &request(b"GET", b"/status", b""));
+    came_so(&came, told)
 }
 
+/// Whether it is asked as it is to be, and this comes of it where it replies so.
 fn goes_so<R: Threads + Net<Listener = TcpListener, Stream = TcpStream> + Copy + Drop>(
     rt: R,
     alloc: Global,
@@ -185,16 +189,13 @@ fn goes_so<R: Threads + Net<Listener = TcpListener, Stream = TcpStream> + Copy +
     let (host, reply, told) = *row;
     let (listener, port) = listener(&rt)?;
     let address = address_of(alloc, host, port)?;
-    let (is_asked, came) = asked(rt, alloc, &listener, &address, reply.as_bytes());
-    Some(is_asked && came_so(&came, told))
-}
-
-#[test]
-fn a_node_is_asked_over_its_own_connection(rt: HostRuntime) {
-    for row in ROWS {
-        let so = goes_so(rt, rt.alloc(), row);
-        assert!(rt; so == Some(true));
-    }
+    let mut nodes = TcpNodes::new(rt);
+    let (is_asked, is_told) = thread::join(
+        &rt,
+        || answers_once(&listener, reply.as_bytes()),
+        || comes_so(alloc, &mut nodes, &address, told),
+    );
+    Some(is_asked && is_told)
 }
 
 /// An address at which none listens any more.
@@ -207,22 +208,21 @@ pub(crate) fn empty_address<R: Net<Listener = TcpListener, Stream = TcpStream>>(
     address_of(alloc, "127.0.0.1", port)
 }
 
-/// Whether none is reached at the address.
-fn finds_none<R: Net + Copy + Drop>(rt: R, alloc: Global, address: &NodeAddress) -> bool {
-    let came = TcpNodes::new(rt).exchange(alloc, address, &request(b"GET", b"/status", b""));
-    is_unreachable(&came)
-}
-
 fn reaches_none<R: Net<Listener = TcpListener, Stream = TcpStream> + Copy + Drop>(
     rt: R,
     alloc: Global,
 ) -> Option<bool> {
     let address = empty_address(&rt, alloc)?;
-    Some(finds_none(rt, alloc, &address))
+    let mut nodes = TcpNodes::new(rt);
+    Some(comes_so(alloc, &mut nodes, &address, Told::Nothing))
 }
 
 #[test]
-fn a_node_that_is_not_there_is_unreachable(rt: HostRuntime) {
+fn a_node_is_asked_over_its_own_connection(rt: HostRuntime) {
+    for row in ROWS {
+        let so = goes_so(rt, rt.alloc(), row);
+        assert!(rt; so == Some(true));
+    }
     let so = reaches_none(rt, rt.alloc());
     assert!(rt; so == Some(true));
 }

@@ -2,42 +2,28 @@
 use crate::lines::line_reads_none;
 use crate::links::writes;
 use crate::sockets::{bound, connected, listener, next_link};
-use grid_outside::{Door, Gate, Line, Reading};
+use crate::tcp_nodes::Timed;
+use grid_outside::{AwaitedLink, Door, Gate, Line, Reading};
 use grid_sockets::{TcpDoor, TcpLine};
 use mio::net;
 use std::alloc::{AllocGlobal, Global};
-use std::io;
 use std::io::{Read, Write};
 use std::net::{Net, OpenStream, TcpListener, TcpStream};
 use std::process::Abort;
 use std::sync::atomic::{AtomicU64, Ordering};
 use std::time::{Clock, Duration};
 
-/// A clock that shows the seconds of a number.
-#[derive(Clone, Copy, Drop)]
-struct Seconds<'a>(&'a AtomicU64);
-
-impl<'a> Clock for Seconds<'a> {
-    fn monotonic(&self) -> io::Result<Duration> {
-        Ok(Duration::from_secs(self.0.load(Ordering::SeqCst)))
-    }
-
-    fn since_1970(&self) -> io::Result<Duration> {
-        self.monotonic()
-    }
-}
-
 /// A line over the loopback whose clock shows the number's seconds, and its client.
 fn line_and_client<'a, R: Net<Listener = TcpListener, Stream = TcpStream>>(
     rt: &R,
     at: &'a AtomicU64,
-) -> Option<(TcpLine<Seconds<'a>>, TcpStream)> {
+) -> Option<(TcpLine<Timed<'a, ()>>, TcpStream)> {
     let (listener, port) = listener(rt)?;
     let client = connected(rt, port)?;
     let (stream, _) = listener.accept().ok()?;
     stream.set_nonblocking(true).ok()?;
     Some((
-        TcpLine::new(Seconds(at), net::TcpStream::from_std(stream)),
+        TcpLine::new(Timed { rt: (), at }, net::TcpStream::from_std(stream)),
         client,
     ))
 }
@@ -63,21 +49,26 @@ fn soon_reads<L: Line>(line: &mut L, text: &str) -> bool {
     false
 }
 
-/// A client may send nothing for 30 s first, and for 300 s behind a byte.
-fn ends_where_silent<R: Net<Listener = TcpListener, Stream = TcpStream>>(rt: &R) -> Option<bool> {
+/// A client may send nothing for 30 s first.
+fn ends_before_a_byte<R: Net<Listener = TcpListener, Stream = TcpStream>>(rt: &R) -> Option<bool> {
     let at = AtomicU64::new(7);
-    let (mut first, _client) = line_and_client(rt, &at)?;
-    let begins = line_reads_none(&mut first, Reading::NotNow) && ends_behind(&mut first, &at, 36);
-    let (mut later, mut client) = line_and_client(rt, &at)?;
-    let goes = client.write_all(b"abc").is_ok() && soon_reads(&mut later, "abc");
-    let waits = line_reads_none(&mut later, Reading::NotNow);
-    Some(begins && goes && waits && ends_behind(&mut later, &at, 336))
+    let (mut line, _client) = line_and_client(rt, &at)?;
+    Some(line_reads_none(&mut line, Reading::NotNow) && ends_behind(&mut line, &at, 36))
+}
+
+/// And for 300 s behind a byte.
+fn ends_behind_a_byte<R: Net<Listener = TcpListener, Stream = TcpStream>>(rt: &R) -> Option<bool> {
+    let at = AtomicU64::new(37);
+    let (mut line, mut client) = line_and_client(rt, &at)?;
+    let goes = client.write_all(b"abc").is_ok() && soon_reads(&mut line, "abc");
+    let waits = line_reads_none(&mut line, Reading::NotNow);
+    Some(goes && waits && ends_behind(&mut line, &at, 336))
 }
 
 #[test]
 fn a_silent_client_is_let_go(rt: HostRuntime) {
-    let so = ends_where_silent(&rt);
-    assert!(rt; so == Some(true));
+    assert!(rt; ends_before_a_byte(&rt) == Some(true));
+    assert!(rt; ends_behind_a_byte(&rt) == Some(true));
 }
 
 /// Whether a read gives the text and the next the end.
@@ -90,42 +81,54 @@ fn hears_to_the_end(client: &mut TcpStream, text: &str) -> bool {
     heard && matches!(client.read(&mut piece), Ok(0))
 }
 
-/// Whether the other end reads what was written, though it was not read itself, and may go on to write.
+/// Whether what is written on the link is read at its other end, though that was not read itself, and may go on to write.
+fn is_heard_over<G: Gate + Drop>(
+    alloc: Global,
+    mut link: AwaitedLink<G>,
+    client: &mut TcpStream,
+) -> bool {
+    let written = writes(&mut link, "de", 2);
+    let mut gate = link.into_gate();
+    let more = client.write_all(&[0; 4_096]).is_ok();
+    gate.wait(0, &mut Vec::new(alloc));
+    written && more && hears_to_the_end(client, "de")
+}
+
 fn is_heard_unread<
     R: Net<Listener = TcpListener, Stream = TcpStream> + Clock + Copy + Send + Drop + AllocGlobal,
 >(rt: R, alloc: Global) -> Option<bool> {
     let mut door = TcpDoor::new(rt, None);
     let port = bound(&mut door)?;
     let mut client = connected(&rt, port)?;
-    let unread = [0; 4_096];
-    let sent = client.write_all(&unread).is_ok();
-    let mut link = next_link(alloc, &mut door)?;
-    let written = writes(&mut link, "de", 2);
-    let mut gate = link.into_gate();
-    let more = client.write_all(&unread).is_ok();
-    let mut ready = Vec::new(alloc);
-    gate.wait(0, &mut ready);
-    Some(sent && written && more && hears_to_the_end(&mut client, "de"))
+    let sent = client.write_all(&[0; 4_096]).is_ok();
+    let link = next_link(alloc, &mut door)?;
+    Some(sent && is_heard_over(alloc, link, &mut client))
 }
 
-#[test]
-fn an_answer_is_heard_though_its_client_was_not(rt: HostRuntime) {
-    let so = is_heard_unread(rt, rt.alloc());
-    assert!(rt; so == Some(true));
+/// Whether less than half a minute has gone by.
+fn is_soon<C: Clock>(clock: &C, before: Duration) -> bool {
+    match clock.monotonic() {
+        Ok(now) => now.saturating_sub(before) < Duration::from_secs(30),
+        Err(_) => false,
+    }
 }
 
 /// Whether an accept, which fails where nothing is bound, ends a wait.
 fn rings<
     R: Net<Listener = TcpListener, Stream = TcpStream> + Clock + Copy + Send + Drop + AllocGlobal,
 >(rt: R, alloc: Global) -> Option<bool> {
+    let before = rt.monotonic().ok()?;
     let mut door = TcpDoor::new(rt, None);
     let mut gate = door.gate().ok()?;
-    let mut ready = Vec::new(alloc);
-    let before = rt.monotonic().ok()?;
     let unbound = door.accept().is_err();
-    gate.wait(60_000, &mut ready);
-    let waited = rt.monotonic().ok()?.saturating_sub(before);
-    Some(unbound && waited < Duration::from_secs(30))
+    gate.wait(60_000, &mut Vec::new(alloc));
+    Some(unbound && is_soon(&rt, before))
+}
+
+#[test]
+fn an_answer_is_heard_though_its_client_was_not(rt: HostRuntime) {
+    let so = is_heard_unread(rt, rt.alloc());
+    assert!(rt; so == Some(true));
 }
 
 #[test]

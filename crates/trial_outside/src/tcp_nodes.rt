@@ -1,10 +1,11 @@
 //! Exchanges over TCP of which no call waits.
-use crate::parts::{is_unreachable, request};
-use crate::sockets::{ROWS, Row, address_of, answers_once, came_so, empty_address, listener};
+ghost use Rattle.std.specs.Prelude.{None};
+
+use crate::parts::request;
+use crate::sockets::{ROWS, Told, address_of, answers_once, came_so, listener};
 use grid_outside::{ExchangeFault, Gate, NodeLine, Reply};
 use grid_sockets::TcpGate;
 use grid_types::NodeAddress;
-use http_frames::NodeRequest;
 use std::alloc::Global;
 use std::net::{Net, SocketAddr, TcpListener, TcpStream};
 use std::process::Abort;
@@ -13,61 +14,109 @@ use std::thread::Threads;
 use std::time::{Clock, Duration};
 use std::{io, thread};
 
-/// What comes of an exchange, waited for by the gate; None where nothing comes within 100 waits.
-fn exchanged<G: Gate>(
+/// A seat that asks its node, and what came of that so far.
+#[derive(Drop)]
+pub(crate) struct Asking<N: Drop> {
+    nodes: N,
+    came: Option<Result<Reply, ExchangeFault>>,
+}
+
+impl<N: NodeLine + Drop> Asking<N> {
+    pub(crate) fn begin(
+        alloc: Global,
+        nodes: N,
+        address: &NodeAddress,
+        method: &str,
+        target: &str,
+        body: &str,
+    ) -> Self
+        requires { N.asks nodes None }
+    {
+        let mut nodes = nodes;
+        nodes.ask(
+            alloc,
+            address,
+            &request(method.as_bytes(), target.as_bytes(), body.as_bytes()),
+        );
+        Asking { nodes, came: None }
+    }
+
+    pub(crate) fn goes_on(&self) -> bool {
+        self.came.is_none()
+    }
+
+    pub(crate) fn look(&mut self, alloc: Global) {
+        if self.came.is_none() {
+            self.came = self.nodes.came(alloc);
+        }
+    }
+
+    pub(crate) fn is_told(&self, told: Told) -> bool {
+        match &self.came {
+            Some(came) => came_so(came, told),
+            None => false,
+        }
+    }
+}
+
+/// A seat at this place that asks the node at the address.
+pub(crate) fn begun<G: Gate>(
+    alloc: Global,
+    gate: &mut G,
+    place: usize,
+    address: &NodeAddress,
+    method: &str,
+    target: &str,
+) -> Asking<G::N> {
+    Asking::begin(alloc, gate.nodes(place), address, method, target, "")
+}
+
+/// Where the seats of one exchange stand.
+const PLACE: usize = 3;
+
+/// Looks for what comes each time that its place is named, at most 100 times.
+fn waits<G: Gate>(alloc: Global, gate: &mut G, asking: &mut Asking<G::N>, ready: &mut Vec<usize>) {
+    asking.look(alloc);
+    for _ in 0..100 {
+        if !asking.goes_on() {
+            return;
+        }
+        ready.clear();
+        gate.wait(1_000, ready);
+        if ready.contains(&PLACE) {
+            asking.look(alloc);
+        }
+    }
+}
+
+/// Whether this comes of a request to a node at the address.
+pub(crate) fn comes_so<G: Gate>(
     alloc: Global,
     gate: &mut G,
     address: &NodeAddress,
-    request: &NodeRequest<'_>,
-) -> Option<Result<Reply, ExchangeFault>> {
-    let mut ready = Vec::with_capacity(alloc, 4).ok()?;
-    let mut nodes = gate.nodes(3);
-    let idle = nodes.came(alloc).is_none();
-    nodes.ask(alloc, address, request);
-    for _ in 0..100 {
-        if let Some(came) = nodes.came(alloc) {
-            return if idle { Some(came) } else { None };
-        }
-        ready.clear();
-        gate.wait(1_000, &mut ready);
-    }
-    None
-}
-
-/// What comes of a request to a node that replies so, where it is asked as it is to be.
-fn asked<R: Threads + Net<Listener = TcpListener, Stream = TcpStream> + Clock + Copy + Send + Drop>(
-    rt: R,
-    alloc: Global,
-    listener: &TcpListener,
-    address: &NodeAddress,
-    reply: &[u8],
-) -> (bool, Option<Result<Reply, ExchangeFault>>) {
-    let Ok(mut gate) = TcpGate::new(rt, alloc) else {
-        return (false, None);
+    told: Told,
+) -> bool {
+    let Ok(mut ready) = Vec::with_capacity(alloc, 4) else {
+        return false;
     };
-    thread::join(
-        &rt,
-        || answers_once(listener, reply),
-        || exchanged(alloc, &mut gate, address, &request(b"GET", b"/status", b"")),
-    )
+    let mut asking = begun(alloc, gate, PLACE, address, "GET", "/status");
+    waits(alloc, gate, &mut asking, &mut ready);
+    asking.is_told(told)
 }
 
+/// Whether a node at the host is asked as it is to be, and this comes of it where it replies so.
 fn goes_so<
     R: Threads + Net<Listener = TcpListener, Stream = TcpStream> + Clock + Copy + Send + Drop,
->(rt: R, alloc: Global, row: &Row) -> Option<bool> {
-    let (host, reply, told) = *row;
+>(rt: R, alloc: Global, host: &str, reply: &[u8], told: Told) -> Option<bool> {
     let (listener, port) = listener(&rt)?;
     let address = address_of(alloc, host, port)?;
-    let (is_asked, came) = asked(rt, alloc, &listener, &address, reply.as_bytes());
-    Some(is_asked && came_so(&came?, told))
-}
-
-#[test]
-fn a_node_is_asked_without_waiting(rt: HostRuntime) {
-    for row in ROWS {
-        let so = goes_so(rt, rt.alloc(), row);
-        assert!(rt; so == Some(true));
-    }
+    let mut gate = TcpGate::new(rt, alloc).ok()?;
+    let (is_asked, is_told) = thread::join(
+        &rt,
+        || answers_once(&listener, reply),
+        || comes_so(alloc, &mut gate, &address, told),
+    );
+    Some(is_asked && is_told)
 }
 
 /// The body of a large reply, in pieces.
@@ -75,57 +124,37 @@ const PIECE: [u8; 65_536] = [97; 65_536];
 
 const PIECES: usize = 32;
 
+const LARGE_HEAD: &[u8] = b"HTTP/1.1 200 OK\r\nContent-Length: 2097152\r\n\r\n";
+
 fn large_reply(alloc: Global) -> Option<Vec<u8>> {
-    let head = b"HTTP/1.1 200 OK\r\nContent-Length: 2097152\r\n\r\n";
-    let mut bytes = Vec::from_slice(alloc, head.as_slice()).ok()?;
+    let mut bytes = Vec::from_slice(alloc, LARGE_HEAD).ok()?;
     for _ in 0..PIECES {
         bytes.extend_from_slice(&PIECE).ok()?;
     }
     Some(bytes)
 }
 
-fn is_large(came: &Result<Reply, ExchangeFault>) -> bool {
-    match came {
-        Ok(Reply::Http(reply)) => reply.body.as_bytes().len() == 2_097_152,
-        _ => false,
-    }
-}
-
+/// It does not come in one go.
 fn takes_large<
     R: Threads + Net<Listener = TcpListener, Stream = TcpStream> + Clock + Copy + Send + Drop,
 >(rt: R, alloc: Global) -> Option<bool> {
     let reply = large_reply(alloc)?;
-    let (listener, port) = listener(&rt)?;
-    let address = address_of(alloc, "127.0.0.1", port)?;
-    let (is_asked, came) = asked(rt, alloc, &listener, &address, reply.as_slice());
-    Some(is_asked && is_large(&came?))
-}
-
-/// It does not come in one go.
-#[test]
-fn a_large_reply_comes(rt: HostRuntime) {
-    let so = takes_large(rt, rt.alloc());
-    assert!(rt; so == Some(true));
-}
-
-fn reaches_none<R: Net<Listener = TcpListener, Stream = TcpStream> + Clock + Copy + Send + Drop>(
-    rt: R,
-    alloc: Global,
-) -> Option<bool> {
-    let address = empty_address(&rt, alloc)?;
-    let mut gate = TcpGate::new(rt, alloc).ok()?;
-    let came = exchanged(
+    goes_so(
+        rt,
         alloc,
-        &mut gate,
-        &address,
-        &request(b"GET", b"/status", b""),
-    )?;
-    Some(is_unreachable(&came))
+        "127.0.0.1",
+        reply.as_slice(),
+        Told::Long(2_097_152),
+    )
 }
 
 #[test]
-fn a_node_that_is_not_there_is_unreachable_at_once(rt: HostRuntime) {
-    let so = reaches_none(rt, rt.alloc());
+fn a_node_is_asked_without_waiting(rt: HostRuntime) {
+    for (host, reply, told) in ROWS {
+        let so = goes_so(rt, rt.alloc(), host, reply.as_bytes(), *told);
+        assert!(rt; so == Some(true));
+    }
+    let so = takes_large(rt, rt.alloc());
     assert!(rt; so == Some(true));
 }
 
@@ -168,50 +197,56 @@ pub(crate) fn rests<G: Gate>(gate: &mut G, ready: &mut Vec<usize>) {
 }
 
 /// Whether an exchange with a node that says nothing is given up after so many seconds and no sooner.
-fn is_given_up<G: Gate>(
+pub(crate) fn is_given_up<G: Gate>(
     alloc: Global,
     gate: &mut G,
-    address: &NodeAddress,
-    request: &NodeRequest<'_>,
+    asking: &mut Asking<G::N>,
+    ready: &mut Vec<usize>,
     at: &AtomicU64,
     seconds: u64,
 ) -> bool {
-    let Ok(mut ready) = Vec::with_capacity(alloc, 4) else {
-        return false;
-    };
-    let mut nodes = gate.nodes(3);
-    at.store(0, Ordering::SeqCst);
-    nodes.ask(alloc, address, request);
-    let mut goes_on = true;
     for _ in 0..5 {
-        goes_on = goes_on && nodes.came(alloc).is_none();
-        rests(gate, &mut ready);
+        asking.look(alloc);
+        rests(gate, ready);
     }
     at.store(seconds.saturating_sub(1), Ordering::SeqCst);
-    let waits = nodes.came(alloc).is_none();
+    asking.look(alloc);
+    let goes_on = asking.goes_on();
     at.store(seconds, Ordering::SeqCst);
-    goes_on && waits && nodes.came(alloc).is_some_and(|came| is_unreachable(&came))
+    asking.look(alloc);
+    goes_on && asking.is_told(Told::Nothing)
+}
+
+/// Whether a request is given up so.
+fn gives_up<G: Gate>(
+    alloc: Global,
+    gate: &mut G,
+    address: &NodeAddress,
+    ready: &mut Vec<usize>,
+    at: &AtomicU64,
+    request: (&str, &str, u64),
+) -> bool {
+    let (method, target, seconds) = request;
+    at.store(0, Ordering::SeqCst);
+    let mut asking = begun(alloc, gate, PLACE, address, method, target);
+    is_given_up(alloc, gate, &mut asking, ready, at, seconds)
 }
 
 /// A command gets 600 s, what ends a session for the hub 30 s.
-fn are_given_up<R: Net<Listener = TcpListener, Stream = TcpStream> + Copy + Send + Drop>(
-    rt: R,
+pub(crate) fn are_given_up<G: Gate>(
     alloc: Global,
-) -> Option<bool> {
-    let at = AtomicU64::new(0);
-    let (listener, port) = listener(&rt)?;
-    let address = address_of(alloc, "127.0.0.1", port)?;
-    let mut gate = TcpGate::new(Timed { rt, at: &at }, alloc).ok()?;
-    let command = request(b"GET", b"/status", b"");
-    let quit = request(b"DELETE", b"/session/1", b"");
-    let so = is_given_up(alloc, &mut gate, &address, &command, &at, 600)
-        && is_given_up(alloc, &mut gate, &address, &quit, &at, 30);
-    drop(listener);
-    Some(so)
-}
-
-#[test]
-fn a_silent_node_is_given_up(rt: HostRuntime) {
-    let so = are_given_up(rt, rt.alloc());
-    assert!(rt; so == Some(true));
+    gate: &mut G,
+    address: &NodeAddress,
+    ready: &mut Vec<usize>,
+    at: &AtomicU64,
+) -> bool {
+    gives_up(alloc, gate, address, ready, at, ("GET", "/status", 600))
+        && gives_up(
+            alloc,
+            gate,
+            address,
+            ready,
+            at,
+            ("DELETE", "/session/1", 30),
+        )
 }
