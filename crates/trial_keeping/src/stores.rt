@@ -199,7 +199,8 @@ fn came<R: Wait>(
 
 /// Whether a hub keeps a legal journal that begins with these bytes.
 fn keeps(alloc: Global, came: Told, front: &[u8]) -> bool {
-    let Some(kept) = came.kept else {
+    let Told { kept, .. } = came;
+    let Some(kept) = kept else {
         return false;
     };
     kept.as_bytes().starts_with(front)
