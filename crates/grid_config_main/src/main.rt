@@ -7,10 +7,11 @@ use grid_config::{
     config_main_by, config_words,
 };
 use grid_console::{Asked, NoWords, ToldBind, ToldHub, ToldNodes, words};
-use grid_outside::StandardInput;
+use grid_outside::{Clock, Door, NodeLink, Source, StandardInput};
 use grid_sockets::{MachineClock, TcpDoor, TcpNodes};
 use grid_types::Text;
 use hub_journal::{FileHub, HubSide, run_told};
+use hub_server::Begins;
 use server_words::{hub_reason, node_reason};
 use std::alloc::Global;
 use std::process::ExitCode;
@@ -51,10 +52,20 @@ fn word(words: &[Text]) -> &str {
     }
 }
 
+// This and `served` take any ends, since the check of a call whose clauses are written out for these ends takes many times as long.
+fn attached<S: Source, N: NodeLink, C: Clock>(
+    alloc: Global,
+    input: &mut S,
+    nodes: &mut N,
+    clock: &mut C,
+) -> u8 {
+    attach_config_main(alloc, input, nodes, clock, u64::MAX)
+}
+
 fn run_attach(rt: HostRuntime, input: &mut Input) -> u8 {
     let mut nodes = ToldNodes::new(rt, NAME, TcpNodes::new(rt), None);
     let mut clock = MachineClock::new(rt);
-    attach_config_main(rt.alloc(), input, &mut nodes, &mut clock, u64::MAX)
+    attached(rt.alloc(), input, &mut nodes, &mut clock)
 }
 
 /// What the text says to the program of this name, and the keys that it has.
@@ -97,6 +108,17 @@ fn tell(rt: HostRuntime, status: u8) {
     }
 }
 
+fn served<R: Threads + Wait + Sync, S: Source, D: Door, B: Begins>(
+    rt: &R,
+    alloc: Global,
+    words: &[Text],
+    input: &mut S,
+    door: &mut D,
+    hub: &mut B,
+) -> u8 {
+    config_main_by(rt, alloc, words, input, door, hub)
+}
+
 /// What a program serves by.
 #[derive(Clone, Copy)]
 struct Job<'a, R> {
@@ -122,7 +144,7 @@ impl<R: Threads + Wait + Sync> Job<'_, R> {
             MachineClock::new(host),
             side,
         );
-        let status = config_main_by(
+        let status = served(
             self.rt,
             host.alloc(),
             self.words,

@@ -3,11 +3,12 @@
 #![tactic(auto)]
 
 use grid_console::{Asked, NoWords, words};
-use grid_outside::{StandardInput, StandardOutput};
+use grid_outside::{Sink, Source, StandardInput, StandardOutput};
 use grid_types::Text;
 use kept_play::kept_run;
-use sql_keeper::SqlKeeper;
-use sqlite::{Alter, Connection};
+use row_keeper::Keeper;
+use sql_keeper::{EitherKeeper, SqlKeeper};
+use sqlite::{Alter, Connection, File, FileStore, MemStore};
 use std::alloc::Global;
 use std::process::ExitCode;
 
@@ -30,6 +31,9 @@ const NO_MEMORY: u8 = 5;
 /// The database can't be opened, or is no keeper's.
 const KEEPER_FAILED: u8 = 8;
 
+/// A keeper over a database in memory or in a file.
+type Kept = EitherKeeper<MemStore, FileStore<File>>;
+
 /// A keeper over the connection, where it can be one.
 fn keeper_of<S: Alter + Drop>(conn: Connection<S>) -> Option<SqlKeeper<S>> {
     let mut conn = conn;
@@ -37,32 +41,50 @@ fn keeper_of<S: Alter + Drop>(conn: Connection<S>) -> Option<SqlKeeper<S>> {
     SqlKeeper::adopt(conn).ok()
 }
 
-/// Plays what the words say over the database.
-fn play<S: Alter + Drop>(rt: &HostRuntime, conn: Connection<S>, words: &[Text]) -> u8 {
-    let Some(keeper) = keeper_of(conn) else {
-        return KEEPER_FAILED;
+/// A keeper over a database in memory.
+fn in_memory(rt: &HostRuntime) -> Result<Kept, u8> {
+    let alloc: Global = rt.alloc();
+    let Ok(conn) = Connection::open_in_memory(alloc) else {
+        return Err(NO_MEMORY);
     };
-    let mut input = StandardInput::new(rt);
-    let mut output = StandardOutput::new(rt);
-    let (status, _keeper) = kept_run(rt.alloc(), words, &mut input, &mut output, keeper);
+    match keeper_of(conn) {
+        Some(keeper) => Ok(EitherKeeper::Memory(keeper)),
+        None => Err(KEEPER_FAILED),
+    }
+}
+
+/// A keeper over a database in a file.
+fn in_file(rt: &HostRuntime, path: &Text) -> Result<Kept, u8> {
+    let Ok(conn) = Connection::open(rt, path.as_str()) else {
+        return Err(KEEPER_FAILED);
+    };
+    match keeper_of(conn) {
+        Some(keeper) => Ok(EitherKeeper::File(keeper)),
+        None => Err(KEEPER_FAILED),
+    }
+}
+
+// Over any ends: the check of a call that has its clauses written out for these ends takes many times as long.
+fn status_over<S: Source, K: Sink, P: Keeper + Drop>(
+    alloc: Global,
+    words: &[Text],
+    input: &mut S,
+    output: &mut K,
+    keeper: P,
+) -> u8 {
+    let (status, _keeper) = kept_run(alloc, words, input, output, keeper);
     status
 }
 
-/// Plays over a database in memory.
-fn play_in_memory(rt: &HostRuntime, words: &[Text]) -> u8 {
-    let alloc: Global = rt.alloc();
-    match Connection::open_in_memory(alloc) {
-        Ok(conn) => play(rt, conn, words),
-        Err(_) => NO_MEMORY,
-    }
-}
-
-/// Plays over a database in a file.
-fn play_in_file(rt: &HostRuntime, path: &Text, words: &[Text]) -> u8 {
-    match Connection::open(rt, path.as_str()) {
-        Ok(conn) => play(rt, conn, words),
-        Err(_) => KEEPER_FAILED,
-    }
+/// Plays what the words say over the keeper, where there is one.
+fn play(rt: &HostRuntime, keeper: Result<Kept, u8>, words: &[Text]) -> u8 {
+    let keeper = match keeper {
+        Ok(keeper) => keeper,
+        Err(status) => return status,
+    };
+    let mut input = StandardInput::new(rt);
+    let mut output = StandardOutput::new(rt);
+    status_over(rt.alloc(), words, &mut input, &mut output, keeper)
 }
 
 /// Runs what the arguments say, or tells what they ask of the program.
@@ -71,16 +93,17 @@ fn status_of(rt: &HostRuntime, words: &[Text]) -> u8 {
         asked.tell(rt, "grid_keeper", USAGE);
         return 0;
     }
-    match words {
+    let (keeper, words) = match words {
         [first, path, others @ ..] => {
             if first.as_str() == "--keep" {
-                play_in_file(rt, path, others)
+                (in_file(rt, path), others)
             } else {
-                play_in_memory(rt, words)
+                (in_memory(rt), words)
             }
         }
-        _ => play_in_memory(rt, words),
-    }
+        _ => (in_memory(rt), words),
+    };
+    play(rt, keeper, words)
 }
 
 fn main(rt: HostRuntime) -> ExitCode {

@@ -2,7 +2,9 @@
 //! promise.
 #![tactic(auto)]
 
+mod either;
 mod faults;
 mod sql_keeper;
 
+pub use either::EitherKeeper;
 pub use sql_keeper::SqlKeeper;

@@ -3,9 +3,11 @@ ghost use Rattle.std.specs.Prelude.{◌≡◌, ◌≢◌, ◌≤◌, [], ◌∷�
 ghost use Rattle.hub_cell.specs.Passes.{IsOf};
 ghost use Rattle.grid_teams_shared.specs.Teams.{PassesAre, passes_of, teams_of};
 
-use grid_outside::{MemClock, MemLink, MemNodes, MemSink, MemSource};
-use grid_teams_shared::{End, Served, SharedTeam, SharedTeams, TeamPasses, serve_teams_shared};
-use grid_types::{Bytes, HubConfig, Moment, NoMemory, Text};
+use grid_outside::{Clock, Link, MemClock, MemLink, MemNodes, MemSink, MemSource, NodeLink};
+use grid_teams_shared::{
+    ConnFault, End, Served, SharedTeam, SharedTeams, TeamPasses, serve_teams_shared,
+};
+use grid_types::{Bytes, HubConfig, Moment, Text};
 use hub_cell::{Pass, SharedHub};
 use std::alloc::Global;
 use std::sync::Wait;
@@ -131,6 +133,22 @@ fn started<R: Wait>(rt: &R, alloc: Global) -> Option<(SharedTeams, TeamPasses)>
     Some(both(list, passes, first, second, pass, its))
 }
 
+/// Serves a connection over any ends, of which a trial asks nothing more than that the passes stay those of the teams.
+fn served_over<R: Wait, L: Link, N: NodeLink, C: Clock>(
+    rt: &R,
+    alloc: Global,
+    teams: &SharedTeams,
+    passes: &mut TeamPasses,
+    link: &mut L,
+    nodes: &mut N,
+    clock: &mut C,
+) -> Result<Served, ConnFault>
+    requires { PassesAre (teams_of teams.now) (passes_of passes.old) }
+    ensures { PassesAre (teams_of teams.now) (passes_of passes.new) }
+{
+    serve_teams_shared(rt, alloc, teams, passes, link, nodes, clock)
+}
+
 /// Whether the connection is answered so.
 fn holds<R: Wait>(
     rt: &R,
@@ -147,7 +165,7 @@ fn holds<R: Wait>(
     let mut link = MemLink::new(source, MemSink::new(alloc, 7, Vec::new(alloc)));
     let mut nodes = MemNodes::new(alloc, Vec::new(alloc));
     let mut clock = MemClock::new(Moment(0));
-    let ended = serve_teams_shared(rt, alloc, teams, passes, &mut link, &mut nodes, &mut clock);
+    let ended = served_over(rt, alloc, teams, passes, &mut link, &mut nodes, &mut clock);
     let wanted = Served {
         frames: row.frames,
         end: row.end,
@@ -174,12 +192,15 @@ fn all_hold<R: Wait>(
     Some(true)
 }
 
+fn are_apart<R: Wait>(rt: &R, alloc: Global) -> Option<bool> {
+    let (teams, mut passes) = started(rt, alloc)?;
+    let held = all_hold(rt, alloc, &teams, &mut passes);
+    teams.close(rt);
+    held
+}
+
 /// Two teams of which each has a hub of its own, one that nobody has, and none.
 #[test]
-fn teams_that_threads_share_are_apart(rt: HostRuntime) -> Result<(), NoMemory> {
-    let (teams, mut passes) = started(&rt, rt.alloc()).ok_or(NoMemory)?;
-    let held = all_hold(&rt, rt.alloc(), &teams, &mut passes);
-    teams.close(&rt);
-    assert!(rt; held.ok_or(NoMemory)?);
-    Ok(())
+fn teams_that_threads_share_are_apart(rt: HostRuntime) {
+    assert!(rt; are_apart(&rt, rt.alloc()) == Some(true));
 }

@@ -2,7 +2,6 @@
 //! firefox is 1, and 2 takes any. The nodes of the names 0 and 3 are at `x:1`, the others at `x:2`.
 use grid_types::{HubConfig, Moment, SlotId};
 use std::alloc::Global;
-use std::process::Abort;
 use trial_desk::*;
 
 /// A moment, a call and its answer.
@@ -15,17 +14,20 @@ fn answered(alloc: Global, desk: &mut Desk, call: &Call, at: u64) -> Result<Stri
 }
 
 // Borrows the desk, so that no early return drops one.
-fn plays_on(rt: &impl Abort, alloc: Global, desk: &mut Desk, steps: &[Step]) -> Result<(), Fault> {
+fn plays_on(alloc: Global, desk: &mut Desk, steps: &[Step]) -> Result<bool, Fault> {
     for (at, call, wanted) in steps {
         let text = answered(alloc, desk, call, *at)?;
-        assert_eq!(rt; text.as_str(), *wanted);
+        if text.as_str() != *wanted {
+            return Ok(false);
+        }
     }
-    Ok(())
+    Ok(true)
 }
 
-fn plays(rt: &impl Abort, alloc: Global, config: HubConfig, steps: &[Step]) -> Result<(), Fault> {
+/// Whether a hub goes so. A fault is out of memory, or that a token is missing.
+fn plays(alloc: Global, config: HubConfig, steps: &[Step]) -> Result<bool, Fault> {
     let mut desk = Desk::new(alloc, config)?;
-    plays_on(rt, alloc, &mut desk, steps)
+    plays_on(alloc, &mut desk, steps)
 }
 
 // The calls in few words: a table is a constant, and no function may be called in it.
@@ -353,7 +355,7 @@ const A_REQUEST_IS_GIVEN_UP: &[Step] = &[
     (6, Call::Dispatch, "nothing"),
 ];
 
-const PLAYS: [&[Step]; 13] = [
+const PLAYS: &[&[Step]] = &[
     A_REQUEST_PASSES_ONE_THAT_FINDS_NO_SLOT,
     A_SESSION_COMES_TOO_LATE,
     A_SECOND_SESSION_OF_ONE_ID_IS_NOT_KEPT,
@@ -369,96 +371,101 @@ const PLAYS: [&[Step]; 13] = [
     A_REQUEST_IS_GIVEN_UP,
 ];
 
-#[test]
-fn hubs_go_as_worked_out(rt: HostRuntime) -> Result<(), Fault> {
-    for steps in &PLAYS {
-        plays(&rt, rt.alloc(), HubConfig::default(), steps)?;
+fn all_play(alloc: Global, all: &[&[Step]]) -> Result<bool, Fault> {
+    for steps in all {
+        if !plays(alloc, HubConfig::default(), steps)? {
+            return Ok(false);
+        }
     }
-    Ok(())
+    Ok(true)
 }
 
-#[test]
-fn numbers_are_spent(rt: HostRuntime) -> Result<(), Fault> {
+/// The last number of a node and of a request was given.
+fn are_spent(alloc: Global) -> Result<bool, Fault> {
     let config = HubConfig {
         first_node: u32::MAX,
         first_request: u64::MAX,
         ..HubConfig::default()
     };
-    plays(&rt, rt.alloc(), config, NUMBERS_ARE_SPENT)
+    plays(alloc, config, NUMBERS_ARE_SPENT)
 }
 
-#[test]
-fn a_held_request_keeps_its_place_in_the_queue(rt: HostRuntime) -> Result<(), Fault> {
+/// There is room for one request.
+fn keeps_its_place(alloc: Global) -> Result<bool, Fault> {
     let config = HubConfig {
         queue_requests: 1,
         ..HubConfig::default()
     };
-    plays(
-        &rt,
-        rt.alloc(),
-        config,
-        A_HELD_REQUEST_KEEPS_ITS_PLACE_IN_THE_QUEUE,
-    )
+    plays(alloc, config, A_HELD_REQUEST_KEEPS_ITS_PLACE_IN_THE_QUEUE)
 }
 
-fn fill(rt: &impl Abort, alloc: Global, desk: &mut Desk, count: u64) -> Result<(), Fault> {
+#[test]
+fn hubs_go_as_worked_out(rt: HostRuntime) -> Result<(), Fault> {
+    let so = all_play(rt.alloc(), PLAYS)?;
+    assert!(rt; so);
+    let so = are_spent(rt.alloc())?;
+    assert!(rt; so);
+    let so = keeps_its_place(rt.alloc())?;
+    assert!(rt; so);
+    Ok(())
+}
+
+/// Whether the call is answered so at the moment 0.
+fn says(alloc: Global, desk: &mut Desk, call: &Call, wanted: &str) -> Result<bool, Fault> {
+    let text = answered(alloc, desk, call, 0)?;
+    Ok(text.as_str() == wanted)
+}
+
+fn are_queued(alloc: Global, desk: &mut Desk, count: u64) -> Result<bool, Fault> {
     for before in 0..count {
         let answer = make(desk, alloc, &wish!(2), Moment(0))?;
-        assert!(rt; matches!(answer, Answer::Queued { request, .. } if request == before + 1));
+        if !matches!(answer, Answer::Queued { request, .. } if request == before + 1) {
+            return Ok(false);
+        }
     }
-    Ok(())
+    Ok(true)
 }
 
-fn all_cleared(rt: &impl Abort, alloc: Global, desk: &mut Desk, count: u64) -> Result<(), Fault> {
+fn are_cleared(alloc: Global, desk: &mut Desk, count: u64) -> Result<bool, Fault> {
     for before in 0..count {
-        let text = answered(alloc, desk, &Call::Poll(before + 1), 0)?;
-        assert_eq!(rt; text.as_str(), "cleared");
+        if !says(alloc, desk, &Call::Poll(before + 1), "cleared")? {
+            return Ok(false);
+        }
     }
-    Ok(())
-}
-
-fn fills(rt: &impl Abort, alloc: Global, desk: &mut Desk) -> Result<(), Fault> {
-    fill(rt, alloc, desk, 10_000)?;
-    let full = answered(alloc, desk, &wish!(2), 0)?;
-    assert_eq!(rt; full.as_str(), "queue full 10000 20000");
-    Ok(())
-}
-
-fn clears(rt: &impl Abort, alloc: Global, desk: &mut Desk) -> Result<(), Fault> {
-    let cleared = answered(alloc, desk, &Call::Clear, 0)?;
-    assert_eq!(rt; cleared.as_str(), "cleared 10000");
-    all_cleared(rt, alloc, desk, 10_000)
-}
-
-fn fills_and_clears(rt: &impl Abort, alloc: Global, desk: &mut Desk) -> Result<(), Fault> {
-    fills(rt, alloc, desk)?;
-    clears(rt, alloc, desk)
+    Ok(true)
 }
 
 /// One empty choice takes 2 bytes.
-#[test]
-fn a_full_queue_is_cleared(rt: HostRuntime) -> Result<(), Fault> {
-    let mut desk = Desk::new(rt.alloc(), HubConfig::default())?;
-    fills_and_clears(&rt, rt.alloc(), &mut desk)
+fn fills_and_clears(alloc: Global, desk: &mut Desk) -> Result<bool, Fault> {
+    Ok(
+        are_queued(alloc, desk, 10_000)?
+            && says(alloc, desk, &wish!(2), "queue full 10000 20000")?
+            && says(alloc, desk, &Call::Clear, "cleared 10000")?
+            && are_cleared(alloc, desk, 10_000)?,
+    )
 }
 
-fn list(rt: &impl Abort, alloc: Global, desk: &mut Desk, count: u64) -> Result<(), Fault> {
+fn are_registered(alloc: Global, desk: &mut Desk, count: u64) -> Result<bool, Fault> {
     for name in 0..count {
         let answer = make(desk, alloc, &node!(name, 0), Moment(0))?;
-        assert!(rt; matches!(answer, Answer::Registered(number) if u64::from(number) == name + 1));
+        if !matches!(answer, Answer::Registered(number) if u64::from(number) == name + 1) {
+            return Ok(false);
+        }
     }
-    Ok(())
+    Ok(true)
 }
 
-fn lists(rt: &impl Abort, alloc: Global, desk: &mut Desk) -> Result<(), Fault> {
-    list(rt, alloc, desk, 1_024)?;
-    let full = answered(alloc, desk, &node!(1_024, 0), 0)?;
-    assert_eq!(rt; full.as_str(), "nodes full 1024");
-    Ok(())
+fn lists(alloc: Global, desk: &mut Desk) -> Result<bool, Fault> {
+    Ok(
+        are_registered(alloc, desk, 1_024)?
+            && says(alloc, desk, &node!(1_024, 0), "nodes full 1024")?,
+    )
 }
 
 #[test]
-fn so_many_nodes_are_listed(rt: HostRuntime) -> Result<(), Fault> {
+fn so_many_requests_and_nodes_are_listed(rt: HostRuntime) -> Result<(), Fault> {
     let mut desk = Desk::new(rt.alloc(), HubConfig::default())?;
-    lists(&rt, rt.alloc(), &mut desk)
+    let so = fills_and_clears(rt.alloc(), &mut desk)? && lists(rt.alloc(), &mut desk)?;
+    assert!(rt; so);
+    Ok(())
 }

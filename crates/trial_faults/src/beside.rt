@@ -1,10 +1,9 @@
 //! A node that never answers, beside connections that share its thread.
-use crate::callers::{Caller, Story, goes};
+use crate::callers::{Caller, Story};
 use crate::leaving::{CREATED_B, CREATES_B, ENDS, NEW_SESSION, NO_REQUESTS};
 use crate::table::Scene;
-use grid_types::NoMemory;
+use crate::tables::{NULL, OK, Told};
 use hub_serving::{End, Served};
-use trial_play_tables::{NULL, OK, Told};
 
 /// A node with two slots registers.
 const REGISTERS_TWO: &[u8] =
@@ -23,7 +22,7 @@ const ONE_STARTS: Told = Told::Hub(
 );
 
 /// The node never answers the first client. The session of the second one is created, used and ended meanwhile.
-const ONE_HANGS: Story = Story {
+pub(crate) const ONE_HANGS: Story = Story {
     registers: REGISTERS_TWO,
     callers: &[
         Caller {
@@ -56,10 +55,3 @@ const ONE_HANGS: Story = Story {
     }],
     after: &[ONE_STARTS, NO_REQUESTS],
 };
-
-#[test]
-fn a_node_that_never_answers_holds_up_nobody(rt: HostRuntime) -> Result<(), NoMemory> {
-    let so = goes(&rt, rt.alloc(), &ONE_HANGS).ok_or(NoMemory)?;
-    assert!(rt; so);
-    Ok(())
-}

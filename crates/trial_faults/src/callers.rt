@@ -1,17 +1,18 @@
 //! Connections in memory that act beside each other over one hub, with what is to be seen of each.
 ghost use Rattle.hub_cell.specs.Passes.{IsOf};
 
-use crate::failing::says;
-use crate::grid::asked;
+use crate::beside::ONE_HANGS;
+use crate::grid::{asked, says};
+use crate::leaving::THREE_LEAVE;
 use crate::seats::{MemSeat, has_asked, line_of};
 use crate::table::{Ends, Scene, play};
+use crate::tables::{Told, joined, nodes_of, plain, text_of};
 use grid_outside::{MemClock, MemLine, MemNodeLine, MemNodes, NodeLink};
 use grid_types::{HubConfig, Moment};
 use hub_cell::{Pass, SharedHub};
 use hub_serving::{ConnFault, Served};
 use std::alloc::Global;
 use std::sync::Wait;
-use trial_play_tables::{Told, joined, nodes_of, plain, text_of};
 
 /// A client with its node, and what is to be seen of them.
 #[derive(Clone, Copy)]
@@ -82,24 +83,43 @@ fn all_ends(alloc: Global, callers: &[Caller]) -> Option<Vec<Reaching<MemNodes>>
 }
 
 /// Whether its client took just this.
-pub(crate) fn has_told(alloc: Global, seat: &MemSeat, told: &[Told]) -> Option<bool> {
-    let told = text_of(alloc, told)?;
-    Some(seat.line().link().taken() == told.as_bytes())
+pub(crate) fn has_told(alloc: Global, seat: &MemSeat, told: &[Told]) -> bool {
+    match text_of(alloc, told) {
+        Some(told) => seat.line().link().taken() == told.as_bytes(),
+        None => false,
+    }
 }
 
-fn is_so(alloc: Global, seat: &MemSeat, caller: &Caller) -> Option<bool> {
-    let is_told = has_told(alloc, seat, caller.told)?;
-    let is_asked = has_asked(alloc, seat, caller.asks)?;
-    Some(is_told && is_asked && seat.result() == caller.ended)
+pub(crate) fn is_so(alloc: Global, seat: &MemSeat, caller: &Caller) -> bool {
+    seat.result() == caller.ended
+        && has_told(alloc, seat, caller.told)
+        && has_asked(alloc, seat, caller.asks)
 }
 
-fn are_so(alloc: Global, seats: &[MemSeat], callers: &[Caller]) -> Option<bool> {
+fn are_so(alloc: Global, seats: &[MemSeat], callers: &[Caller]) -> bool {
     for (seat, caller) in seats.iter().zip(callers) {
-        if !is_so(alloc, seat, caller)? {
-            return Some(false);
+        if !is_so(alloc, seat, caller) {
+            return false;
         }
     }
-    Some(seats.len() == callers.len())
+    seats.len() == callers.len()
+}
+
+/// Whether the hub says this of its slots and of its queue afterwards.
+pub(crate) fn is_left<R: Wait>(
+    rt: &R,
+    alloc: Global,
+    hub: &SharedHub,
+    pass: &mut Pass,
+    after: &[Told],
+) -> bool
+    requires { IsOf hub.now pass.old }
+    ensures { IsOf hub.now pass.new }
+{
+    match text_of(alloc, after) {
+        Some(after) => says(rt, alloc, hub, pass, after.as_str()),
+        None => false,
+    }
 }
 
 /// What a node that registers says, who calls, who acts when, and what the hub says of its slots and of its queue afterwards.
@@ -125,17 +145,21 @@ fn goes_over<R: Wait>(
     let mut clock = MemClock::new(Moment(0));
     let all = all_ends(alloc, story.callers)?;
     let seats = play(rt, alloc, hub, first, all, story.scenes, &mut clock)?;
-    let is_seen = are_so(alloc, seats.as_slice(), story.callers)?;
-    let after = text_of(alloc, story.after)?;
-    let is_left = says(rt, alloc, hub, first, after.as_str())?;
-    Some(is_seen && is_left)
+    let is_seen = are_so(alloc, seats.as_slice(), story.callers);
+    Some(is_seen && is_left(rt, alloc, hub, first, story.after))
 }
 
 /// Whether the story goes so over a hub of its own.
-pub(crate) fn goes<R: Wait>(rt: &R, alloc: Global, story: &Story) -> Option<bool> {
+fn goes<R: Wait>(rt: &R, alloc: Global, story: &Story) -> Option<bool> {
     let (hub, mut first) = SharedHub::new(rt, alloc, HubConfig::default(), 0, 1).ok()?;
     let so = goes_over(rt, alloc, &hub, &mut first, story);
     first.let_go();
     hub.close(rt);
     so
+}
+
+#[test]
+fn nobody_is_held_up(rt: HostRuntime) {
+    assert!(rt; goes(&rt, rt.alloc(), &ONE_HANGS) == Some(true));
+    assert!(rt; goes(&rt, rt.alloc(), &THREE_LEAVE) == Some(true));
 }

@@ -1,13 +1,13 @@
 //! A shared hub with its nodes, and connections over it.
 ghost use Rattle.hub_cell.specs.Passes.{IsOf};
 
+use crate::tables::{AFTER, Client, asks_of, link_of, plain};
 use grid_outside::{Clock, Link, MemClock, MemLink, MemNodes, NodeLink};
 use grid_types::Moment;
 use hub_cell::{Pass, SharedHub};
 use hub_serving::{ConnFault, Served, serve_shared};
 use std::alloc::Global;
 use std::sync::Wait;
-use trial_play_tables::{Client, asks_of, link_of, plain};
 
 /// What is to be seen of a connection: what is written, how it ends, and what the nodes are asked.
 #[derive(Clone, Copy)]
@@ -34,9 +34,11 @@ fn served<R: Wait, L: Link, N: NodeLink, C: Clock>(
 }
 
 /// Whether these are the exchanges that were made.
-pub(crate) fn are_asked(alloc: Global, nodes: &MemNodes, wanted: &str) -> Option<bool> {
-    let asks = asks_of(alloc, nodes)?;
-    Some(asks.as_str() == wanted)
+pub(crate) fn are_asked(alloc: Global, nodes: &MemNodes, wanted: &str) -> bool {
+    match asks_of(alloc, nodes) {
+        Some(asks) => asks.as_str() == wanted,
+        None => false,
+    }
 }
 
 /// Whether the client is served so from moment 0 on. None is out of memory, as everywhere here.
@@ -56,8 +58,7 @@ pub(crate) fn serves<R: Wait>(
     let mut clock = MemClock::new(Moment(0));
     let ended = served(rt, alloc, hub, pass, nodes, &mut link, &mut clock);
     let is_told = ended == wanted.ended && link.taken() == wanted.written;
-    let is_asked = are_asked(alloc, nodes, wanted.asks)?;
-    Some(is_told && is_asked)
+    Some(is_told && are_asked(alloc, nodes, wanted.asks))
 }
 
 /// Makes these requests, for which no node is asked.
@@ -76,4 +77,21 @@ pub(crate) fn asked<R: Wait>(
     let mut clock = MemClock::new(Moment(0));
     let _ended = served(rt, alloc, hub, pass, &mut nodes, &mut link, &mut clock);
     Some(link)
+}
+
+/// Whether the hub says this afterwards.
+pub(crate) fn says<R: Wait>(
+    rt: &R,
+    alloc: Global,
+    hub: &SharedHub,
+    pass: &mut Pass,
+    state: &str,
+) -> bool
+    requires { IsOf hub.now pass.old }
+    ensures { IsOf hub.now pass.new }
+{
+    match asked(rt, alloc, hub, pass, AFTER) {
+        Some(link) => link.taken() == state.as_bytes(),
+        None => false,
+    }
 }

@@ -1,9 +1,8 @@
 //! Clients that leave while their requests for sessions wait.
-use crate::callers::{Caller, Story, goes};
+use crate::callers::{Caller, Story};
 use crate::table::Scene;
-use grid_types::NoMemory;
+use crate::tables::{NULL, OK, REGISTERS, Told};
 use hub_serving::{ConnFault, End, Served};
-use trial_play_tables::{NULL, OK, REGISTERS, Told};
 
 /// A request for a session.
 pub(crate) const NEW_SESSION: &[u8] =
@@ -60,7 +59,7 @@ const LEAVES: Caller = Caller {
 
 /// The first client gets the only slot. Three wait behind it and leave, then its session is ended, and the last one is served while
 /// no time passes. So two sessions are created in all: no node is asked for a third.
-const THREE_LEAVE: Story = Story {
+pub(crate) const THREE_LEAVE: Story = Story {
     registers: REGISTERS,
     callers: &[
         Caller {
@@ -118,10 +117,3 @@ const THREE_LEAVE: Story = Story {
     ],
     after: &[B_RUNS, NO_REQUESTS],
 };
-
-#[test]
-fn clients_that_leave_keep_nobody_waiting(rt: HostRuntime) -> Result<(), NoMemory> {
-    let so = goes(&rt, rt.alloc(), &THREE_LEAVE).ok_or(NoMemory)?;
-    assert!(rt; so);
-    Ok(())
-}

@@ -5,20 +5,19 @@ ghost use Rattle.hub_serving.specs.Tables.{IsSeated};
 ghost use Rattle.hub_workers.specs.WorkSeats.{IsAtWork};
 ghost use Rattle.hub_workers.specs.SharedClock.{Asked};
 
-use crate::callers::{Caller, ends_of, has_told};
-use crate::failing::says;
+use crate::callers::{Caller, ends_of, is_left, is_so};
 use crate::grid::{are_asked, asked};
 use crate::leaving::{CREATES_A, ENDS, NEW_SESSION, NO_REQUESTS};
-use crate::seats::{BUFFER_BYTES, MemSeat, WAITS_MS, has_asked};
+use crate::seats::{BUFFER_BYTES, MemSeat, WAITS_MS};
 use crate::table::{Ends, let_pass};
+use crate::tables::{OK, REGISTERS, Told};
 use grid_outside::{Clock, Line, MemClock, MemNodeLine, MemNodes, NodeLine};
-use grid_types::{HubConfig, Moment, NoMemory};
+use grid_types::{HubConfig, Moment};
 use hub_cell::{Pass, SharedHub};
 use hub_serving::{ConnFault, Seat, seats_stay_seated};
 use hub_workers::{WorkSeat, workers_stay_at_work};
 use std::alloc::Global;
 use std::sync::Wait;
-use trial_play_tables::{OK, REGISTERS, Told, text_of};
 
 /// So often its client acts before a node is there.
 const BEFORE: u64 = 12;
@@ -215,15 +214,9 @@ const FREE: Told = Told::Hub(
 
 type MemWorker = WorkSeat<MemNodeLine<MemNodes>, MemClock>;
 
-/// Nothing was told the client, and its session was ended at the node by the client's own connection.
-fn is_ended(alloc: Global, seat: &MemSeat) -> Option<bool> {
-    let is_told = has_told(alloc, seat, CLIENT.told)?;
-    let is_asked = has_asked(alloc, seat, CLIENT.asks)?;
-    Some(is_told && is_asked && seat.result() == CLIENT.ended)
-}
-
-fn has_started(alloc: Global, worker: &MemWorker) -> Option<bool> {
-    are_asked(alloc, worker.nodes().nodes(), WORKER.asks)
+/// Nothing was told the client, and its session was started by the worker and ended at the node by the client's own connection.
+fn is_ended(alloc: Global, seat: &MemSeat, worker: &MemWorker) -> bool {
+    is_so(alloc, seat, &CLIENT) && are_asked(alloc, worker.nodes().nodes(), WORKER.asks)
 }
 
 fn goes_over<R: Wait>(rt: &R, alloc: Global, hub: &SharedHub, first: &mut Pass) -> Option<bool>
@@ -234,11 +227,8 @@ fn goes_over<R: Wait>(rt: &R, alloc: Global, hub: &SharedHub, first: &mut Pass) 
     let client = ends_of(alloc, &CLIENT)?;
     let starts = ends_of(alloc, &WORKER)?;
     let (seat, worker) = play(rt, alloc, hub, first, client, starts, &mut clock)?;
-    let is_ended = is_ended(alloc, &seat)?;
-    let has_started = has_started(alloc, &worker)?;
-    let after = text_of(alloc, &[FREE, NO_REQUESTS])?;
-    let is_free = says(rt, alloc, hub, first, after.as_str())?;
-    Some(is_ended && has_started && is_free)
+    let is_ended = is_ended(alloc, &seat, &worker);
+    Some(is_ended && is_left(rt, alloc, hub, first, &[FREE, NO_REQUESTS]))
 }
 
 fn goes<R: Wait>(rt: &R, alloc: Global) -> Option<bool> {
@@ -250,8 +240,6 @@ fn goes<R: Wait>(rt: &R, alloc: Global) -> Option<bool> {
 }
 
 #[test]
-fn a_session_that_is_started_for_one_who_left_is_ended(rt: HostRuntime) -> Result<(), NoMemory> {
-    let so = goes(&rt, rt.alloc()).ok_or(NoMemory)?;
-    assert!(rt; so);
-    Ok(())
+fn a_session_that_is_started_for_one_who_left_is_ended(rt: HostRuntime) {
+    assert!(rt; goes(&rt, rt.alloc()) == Some(true));
 }

@@ -1,7 +1,7 @@
-//! Trials of connections over a shared hub where something goes wrong: a read, a write or an exchange fails, bytes are malicious,
-//! a node misbehaves; and that neither the pieces in which bytes come and go make a difference, nor calls that find nothing there
-//! on a connection that shares its thread; how many turns a relayed command takes there; and that there neither a node that never
-//! answers nor clients that leave hold up anybody.
+//! Trials of connections as tables have them, over a hub of one thread and over a shared one, where something goes wrong: a read, a
+//! write or an exchange fails, bytes are malicious, a node misbehaves; and that neither the pieces in which bytes come and go make a
+//! difference, nor calls that find nothing there on a connection that shares its thread; what goes before each request; how many
+//! turns a relayed command takes; and that neither a node that never answers nor clients that leave hold up anybody.
 #![tactic(auto)]
 
 #[cfg(test)]
@@ -9,7 +9,7 @@ mod beside;
 #[cfg(test)]
 mod callers;
 #[cfg(test)]
-mod failing;
+mod either;
 #[cfg(test)]
 mod grid;
 #[cfg(test)]
@@ -17,12 +17,14 @@ mod leaving;
 #[cfg(test)]
 mod left_start;
 #[cfg(test)]
+mod local;
+#[cfg(test)]
 mod plays;
 #[cfg(test)]
 mod seats;
 #[cfg(test)]
 mod table;
 #[cfg(test)]
-mod turns;
+mod tables;
 #[cfg(test)]
-mod worked;
+mod turns;

@@ -2,13 +2,14 @@
 ghost use Rattle.hub_cell.specs.Passes.{IsOf};
 
 use crate::grid::{Wanted, asked, serves};
+use crate::tables::{
+    MaliciousRow, PIECES, Play, client_in, malicious_play, nodes_of, registers, sent, text_of,
+};
 use grid_types::HubConfig;
 use hub_cell::{Pass, SharedHub};
 use hub_serving::Served;
 use std::alloc::Global;
-use std::process::Abort;
 use std::sync::Wait;
-use trial_play_tables::{PIECES, Play, client_in, nodes_of, registers, sent, text_of};
 
 /// A play over one hub: the requests that come before, those of the play, and what is to be seen.
 #[derive(Clone, Copy)]
@@ -99,10 +100,23 @@ fn goes_so<R: Wait>(rt: &R, alloc: Global, play: &Play) -> Option<bool> {
     goes_in_pieces(rt, alloc, &scene)
 }
 
-pub(crate) fn go_so<R: Wait + Abort>(rt: &R, alloc: Global, plays: &[Play]) -> Option<()> {
+/// Whether they go so.
+pub(crate) fn all_go<R: Wait>(rt: &R, alloc: Global, plays: &[Play]) -> bool {
     for play in plays {
-        let so = goes_so(rt, alloc, play)?;
-        assert!(rt; so, "{}", play.asks);
+        if goes_so(rt, alloc, play) != Some(true) {
+            return false;
+        }
     }
-    Some(())
+    true
+}
+
+/// Whether a hub without nodes refuses them so.
+pub(crate) fn are_refused<R: Wait>(rt: &R, alloc: Global, rows: &[MaliciousRow]) -> bool {
+    for row in rows {
+        let play = malicious_play(row);
+        if goes_so(rt, alloc, &play) != Some(true) {
+            return false;
+        }
+    }
+    true
 }

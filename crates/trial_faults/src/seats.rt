@@ -3,18 +3,17 @@ ghost use Rattle.std.specs.Prelude.{None};
 ghost use Rattle.hub_cell.specs.Passes.{IsOf};
 ghost use Rattle.hub_serving.specs.Tables.{pass_of};
 
-use crate::grid::{are_asked, asked};
+use crate::grid::{are_asked, asked, says};
+use crate::tables::{
+    Client, FailingRow, Fails, REGISTERS, client_of, five_requests, foretold, front, link_of,
+    nodes_failing,
+};
 use grid_outside::{Clock, Line, MemClock, MemLine, MemNodeLine, MemNodes, NodeLine};
-use grid_types::{HubConfig, Moment, NoMemory};
+use grid_types::{HubConfig, Moment};
 use hub_cell::{Pass, SharedHub};
 use hub_serving::{Act, ConnFault, Seat, Served};
 use std::alloc::Global;
-use std::process::Abort;
 use std::sync::Wait;
-use trial_play_tables::{
-    AFTER, Client, FailingRow, REGISTERS, ROWS, client_of, five_requests, foretold, front, link_of,
-    nodes_failing,
-};
 
 /// More than any connection here takes.
 const STEPS: u64 = 1_000;
@@ -62,10 +61,55 @@ fn stepped<R: Wait, L: Line + Drop, N: NodeLine + Drop, C: Clock>(
     seat
 }
 
-/// Whether a connection ended as the row has it, and its client took just so many bytes of this.
-fn is_told_so(seat: &MemSeat, row: &FailingRow, told: &[u8]) -> bool {
-    let wanted = front(told, row.written);
-    has_ended(seat, row.ended) && seat.line().link().taken() == wanted
+/// Whether a connection ended as the row has it, its client took just so many bytes of this, and its node was asked so.
+fn is_so(alloc: Global, seat: &MemSeat, row: &FailingRow, told: &[u8]) -> bool {
+    has_ended(seat, row.ended)
+        && seat.line().link().taken() == front(told, row.written)
+        && has_asked(alloc, seat, row.asks)
+}
+
+/// The ends of a connection, and the numbers of the questions that find nothing there.
+#[derive(Drop)]
+struct RowEnds {
+    line: MemLine,
+    nodes: MemNodes,
+    waits: Vec<u64>,
+}
+
+fn row_ends(alloc: Global, fails: Fails) -> Option<RowEnds> {
+    let sends = five_requests(alloc)?;
+    let line = line_of(alloc, &client_of(sends.as_slice(), fails))?;
+    let nodes = nodes_failing(alloc, fails)?;
+    let waits = every_other(alloc)?;
+    Some(RowEnds { line, nodes, waits })
+}
+
+/// What is to be seen: what is told, and what the hub says afterwards.
+#[derive(Clone, Copy)]
+struct Wanted<'a> {
+    told: &'a [u8],
+    state: &'a str,
+}
+
+/// Whether a connection over these ends goes as the row says, and the hub says so afterwards.
+fn goes_by<R: Wait>(
+    rt: &R,
+    alloc: Global,
+    hub: &SharedHub,
+    pass: Pass,
+    ends: RowEnds,
+    row: &FailingRow,
+    wanted: &Wanted<'_>,
+) -> bool
+    requires { IsOf hub.now pass }
+{
+    let RowEnds { line, nodes, waits } = ends;
+    let nodes = MemNodeLine::new(nodes, waits);
+    let mut clock = MemClock::new(Moment(0));
+    let seat = stepped(rt, alloc, hub, pass, line, nodes, &mut clock);
+    let is_seen = is_so(alloc, &seat, row, wanted.told);
+    let mut pass = seat.into_pass();
+    is_seen && says(rt, alloc, hub, &mut pass, wanted.state)
 }
 
 /// Whether the five requests of the row are served so, and the hub says so afterwards.
@@ -81,16 +125,12 @@ fn goes_over<R: Wait>(
     let mut pass = pass;
     asked(rt, alloc, hub, &mut pass, REGISTERS)?;
     let (told, state) = foretold(alloc, row.told, row.slot)?;
-    let sends = five_requests(alloc)?;
-    let line = line_of(alloc, &client_of(sends.as_slice(), row.fails))?;
-    let nodes = MemNodeLine::new(nodes_failing(alloc, row.fails)?, every_other(alloc)?);
-    let mut clock = MemClock::new(Moment(0));
-    let seat = stepped(rt, alloc, hub, pass, line, nodes, &mut clock);
-    let is_told = is_told_so(&seat, row, told.as_bytes());
-    let is_asked = has_asked(alloc, &seat, row.asks)?;
-    let mut pass = seat.into_pass();
-    let link = asked(rt, alloc, hub, &mut pass, AFTER)?;
-    Some(is_told && is_asked && link.taken() == state.as_bytes())
+    let ends = row_ends(alloc, row.fails)?;
+    let wanted = Wanted {
+        told: told.as_bytes(),
+        state: state.as_str(),
+    };
+    Some(goes_by(rt, alloc, hub, pass, ends, row, &wanted))
 }
 
 /// Over a hub of its own.
@@ -101,24 +141,21 @@ fn goes<R: Wait>(rt: &R, alloc: Global, row: &FailingRow) -> Option<bool> {
     so
 }
 
-fn go_so<R: Wait + Abort>(rt: &R, alloc: Global) -> Option<()> {
-    for row in &ROWS {
-        let so = goes(rt, alloc, row)?;
-        assert!(rt; so, "{} bytes, {}", row.written, row.entries);
+/// Whether each row goes so.
+pub(crate) fn rows_go<R: Wait>(rt: &R, alloc: Global, rows: &[FailingRow]) -> bool {
+    for row in rows {
+        if goes(rt, alloc, row) != Some(true) {
+            return false;
+        }
     }
-    Some(())
-}
-
-#[test]
-fn one_call_of_a_seat_fails(rt: HostRuntime) -> Result<(), NoMemory> {
-    go_so(&rt, rt.alloc()).ok_or(NoMemory)
+    true
 }
 
 /// A connection over ends in memory.
 pub(crate) type MemSeat = Seat<MemLine, MemNodeLine<MemNodes>, MemClock>;
 
 /// Whether its node was asked so.
-pub(crate) fn has_asked(alloc: Global, seat: &MemSeat, asks: &str) -> Option<bool> {
+pub(crate) fn has_asked(alloc: Global, seat: &MemSeat, asks: &str) -> bool {
     are_asked(alloc, seat.nodes().nodes(), asks)
 }
 

@@ -5,11 +5,11 @@ ghost use Rattle.grid_keeper.specs.Keeping.{IsOpen};
 ghost use Rattle.hub_core.specs.HubView.{past};
 
 use grid_keeper::{KeptHub, Left, settle};
-use grid_outside::{MemClock, MemNodes, MemSink, MemSource};
+use grid_outside::{MemClock, MemNodes, MemSink, MemSource, Sink, Source};
 use grid_types::{Bytes, Found, HubConfig, Moment, SessionId, Text};
 use kept_play::kept_run;
 use row_keeper::{Keeper, MemKeeper, Planned};
-use std::alloc::{AllocError, Global};
+use std::alloc::Global;
 
 /// A node with one slot.
 const WORDS: &[&str] = &["play", "chrome", "1"];
@@ -45,38 +45,38 @@ const CASES: &[Case] = &[
     (6, Planned::FailsWithRow, 8, true),
 ];
 
-fn put(alloc: Global, list: &mut Vec<Text>, word: &str) -> Result<(), AllocError> {
-    let Ok(text) = Text::of(alloc, word) else {
-        return Err(AllocError);
-    };
-    match list.push(text) {
-        Ok(()) => Ok(()),
-        Err(_) => Err(AllocError),
-    }
-}
-
 // Borrows the list, so that no early return drops it.
-fn put_words(alloc: Global, list: &mut Vec<Text>) -> Result<(), AllocError> {
+fn put_words(alloc: Global, list: &mut Vec<Text>) -> Option<()> {
     for word in WORDS {
-        put(alloc, list, *word)?;
+        list.push(Text::of(alloc, word).ok()?).ok()?;
     }
-    Ok(())
+    Some(())
 }
 
 /// Plans what the keep with this number does.
-fn plan(plan: &mut Vec<Planned>, number: u32, planned: Planned) -> Result<(), AllocError> {
+fn plan(plan: &mut Vec<Planned>, number: u32, planned: Planned) -> Option<()> {
     for _ in 0..number {
-        plan.push(Planned::Keeps)?;
+        plan.push(Planned::Keeps).ok()?;
     }
-    plan.push(planned)?;
-    Ok(())
+    plan.push(planned).ok()
+}
+
+/// Over any ends, of which a trial asks no clause.
+fn run_over<S: Source, O: Sink, K: Keeper>(
+    alloc: Global,
+    words: &[Text],
+    input: &mut S,
+    output: &mut O,
+    keeper: K,
+) -> (u8, K) {
+    kept_run(alloc, words, input, output, keeper)
 }
 
 /// Plays what was asked over the keeper: the status, whether the client was told of its session, and the keeper.
 fn played(alloc: Global, words: &[Text], asked: Bytes, keeper: MemKeeper) -> (u8, bool, MemKeeper) {
     let mut input = MemSource::new(asked, 1_000, Vec::new(alloc));
     let mut output = MemSink::new(alloc, 1_000, Vec::new(alloc));
-    let (status, keeper) = kept_run(alloc, words, &mut input, &mut output, keeper);
+    let (status, keeper) = run_over(alloc, words, &mut input, &mut output, keeper);
     (status, output.taken().starts_with(CREATED), keeper)
 }
 
@@ -132,24 +132,31 @@ fn is_so(alloc: Global, words: &[Text], asked: Bytes, keeper: MemKeeper, case: &
     status == case.2 && told == case.3 && is_found(alloc, kept, told)
 }
 
-fn comes_back(alloc: Global, words: &[Text], case: &Case) -> Result<bool, AllocError> {
+fn comes_back(alloc: Global, words: &[Text], case: &Case) -> Option<bool> {
     let mut planned = Vec::new(alloc);
     plan(&mut planned, case.0, case.1)?;
-    let Ok(asked) = Bytes::of(alloc, ASKED) else {
-        return Err(AllocError);
-    };
-    Ok(is_so(alloc, words, asked, MemKeeper::new(alloc, planned), case))
+    let keeper = MemKeeper::new(alloc, planned);
+    match Bytes::of(alloc, ASKED) {
+        Ok(asked) => Some(is_so(alloc, words, asked, keeper, case)),
+        Err(_) => None,
+    }
+}
+
+fn all_come_back(alloc: Global, words: &mut Vec<Text>) -> bool {
+    if put_words(alloc, words).is_none() {
+        return false;
+    }
+    for case in CASES {
+        if comes_back(alloc, words.as_slice(), case) != Some(true) {
+            return false;
+        }
+    }
+    true
 }
 
 /// A session that the client was told of is found again, whichever keep fails.
 #[test]
-fn a_session_that_was_told_is_found_again(rt: HostRuntime) -> Result<(), AllocError> {
+fn a_session_that_was_told_is_found_again(rt: HostRuntime) {
     let alloc = rt.alloc();
-    let mut words = Vec::new(alloc);
-    put_words(alloc, &mut words)?;
-    for case in CASES {
-        let so = comes_back(alloc, words.as_slice(), case)?;
-        assert!(rt; so, "{}", case.0);
-    }
-    Ok(())
+    assert!(rt; all_come_back(alloc, &mut Vec::new(alloc)));
 }

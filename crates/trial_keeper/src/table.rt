@@ -2,10 +2,8 @@
 //! numbers have a hole is refused.
 use row_keeper::{KeepFault, Keeper};
 use sql_keeper::SqlKeeper;
-use sqlite::{Connection, MemStore};
+use sqlite::{Alter, Connection, MemStore};
 use std::alloc::Global;
-
-type Kept = SqlKeeper<MemStore>;
 
 const TABLE: &str = "CREATE TABLE turns (number INTEGER PRIMARY KEY, body BLOB NOT NULL)";
 
@@ -17,23 +15,65 @@ const STATEMENTS: &[(&str, bool)] = &[
     ("DELETE FROM turns WHERE number = 1", false),
 ];
 
+const FIRST: &[u8] = &[13, 0, 255];
+
+// What follows is over any keeper and any database, since the clauses of both at these in memory take the check long to write out.
+
 /// Whether the row with this number is the one that is wanted.
-fn is_row(keeper: &mut Kept, alloc: Global, index: u64, wanted: &[u8]) -> bool {
+fn is_row<K: Keeper>(keeper: &mut K, alloc: Global, index: u64, wanted: &[u8]) -> bool {
     match keeper.row(alloc, index) {
         Ok(Some(row)) => row.as_bytes() == wanted,
         _ => false,
     }
 }
 
-fn is_end(keeper: &mut Kept, alloc: Global, index: u64) -> bool {
-    match keeper.row(alloc, index) {
-        Ok(None) => true,
-        _ => false,
+fn is_end<K: Keeper>(keeper: &mut K, alloc: Global, index: u64) -> bool {
+    matches!(keeper.row(alloc, index), Ok(None))
+}
+
+fn keeps_both<K: Keeper>(keeper: &mut K, first: &[u8], second: &[u8]) -> bool {
+    keeper.keep(first).is_ok() && keeper.keep(second).is_ok()
+}
+
+fn has_both<K: Keeper>(keeper: &mut K, alloc: Global, first: &[u8], second: &[u8]) -> bool {
+    is_row(keeper, alloc, 0, first) && is_row(keeper, alloc, 1, second) && is_end(keeper, alloc, 2)
+}
+
+fn runs<S: Alter + Drop>(conn: &mut Connection<S>, statement: &str) -> bool {
+    conn.execute_batch(statement).is_ok()
+}
+
+fn adopted<S: Alter + Drop>(conn: Connection<S>) -> Option<SqlKeeper<S>> {
+    match SqlKeeper::adopt(conn) {
+        Ok(keeper) => Some(keeper),
+        Err(_) => None,
     }
 }
 
-fn runs(conn: &mut Connection<MemStore>, statement: &str) -> bool {
-    conn.execute_batch(statement).is_ok()
+/// Whether two rows are kept and read again, by the next keeper over the same table.
+fn keeps<S: Alter + Drop>(alloc: Global, conn: Connection<S>) -> Option<bool> {
+    let mut keeper = adopted(conn)?;
+    let kept = is_end(&mut keeper, alloc, 0) && keeps_both(&mut keeper, FIRST, &[]);
+    let mut again = adopted(keeper.into_connection())?;
+    Some(kept && again.count() == 2 && has_both(&mut again, alloc, FIRST, &[]))
+}
+
+/// Whether the table is no keeper's.
+fn is_refused<S: Alter + Drop>(conn: Connection<S>) -> bool {
+    match SqlKeeper::adopt(conn) {
+        Ok(_) => false,
+        Err((fault, _)) => fault == KeepFault::Failed,
+    }
+}
+
+/// Whether the table is refused once the statement was run over two rows.
+fn refuses<S: Alter + Drop>(conn: Connection<S>, statement: &str) -> Option<bool> {
+    let mut keeper = adopted(conn)?;
+    let kept = keeps_both(&mut keeper, &[1], &[2]);
+    let mut conn = keeper.into_connection();
+    let ran = runs(&mut conn, statement);
+    let refused = is_refused(conn);
+    if kept && ran { Some(refused) } else { None }
 }
 
 /// A connection with an empty table.
@@ -46,74 +86,17 @@ fn with_table(alloc: Global) -> Option<Connection<MemStore>> {
     }
 }
 
-fn adopted(conn: Connection<MemStore>) -> Option<Kept> {
-    match SqlKeeper::adopt(conn) {
-        Ok(keeper) => Some(keeper),
-        Err(_) => None,
-    }
-}
-
-fn keeps_both(keeper: &mut Kept, first: &[u8], second: &[u8]) -> bool {
-    keeper.keep(first).is_ok() && keeper.keep(second).is_ok()
-}
-
-fn has_both(keeper: &mut Kept, alloc: Global, first: &[u8], second: &[u8]) -> bool {
-    is_row(keeper, alloc, 0, first)
-        && is_row(keeper, alloc, 1, second)
-        && is_end(keeper, alloc, 2)
-        && keeper.count() == 2
-}
-
-const FIRST: &[u8] = &[13, 0, 255];
-
-/// Whether two rows are kept and read again, by the next keeper over the same table.
-fn keeps(alloc: Global, conn: Connection<MemStore>) -> bool {
-    let Some(keeper) = adopted(conn) else {
-        return false;
-    };
-    let mut keeper = keeper;
-    let kept = is_end(&mut keeper, alloc, 0) && keeps_both(&mut keeper, FIRST, &[]);
-    match adopted(keeper.into_connection()) {
-        Some(again) => {
-            let mut again = again;
-            kept && has_both(&mut again, alloc, FIRST, &[])
+fn go_so(alloc: Global, statements: &[(&str, bool)]) -> Option<bool> {
+    for (statement, wanted) in statements {
+        let refused = refuses(with_table(alloc)?, *statement);
+        if refused != Some(*wanted) {
+            return Some(false);
         }
-        None => false,
     }
-}
-
-/// Whether the table is no keeper's.
-fn is_refused(conn: Connection<MemStore>) -> bool {
-    match SqlKeeper::adopt(conn) {
-        Ok(_) => false,
-        Err((fault, _)) => fault == KeepFault::Failed,
-    }
-}
-
-/// Whether the table is refused once the statement was run over two rows.
-fn refuses(conn: Connection<MemStore>, statement: &str) -> Option<bool> {
-    match adopted(conn) {
-        Some(keeper) => {
-            let mut keeper = keeper;
-            let kept = keeps_both(&mut keeper, &[1], &[2]);
-            let mut conn = keeper.into_connection();
-            let ran = runs(&mut conn, statement);
-            let refused = is_refused(conn);
-            if kept && ran { Some(refused) } else { None }
-        }
-        None => None,
-    }
+    keeps(alloc, with_table(alloc)?)
 }
 
 #[test]
 fn rows_are_kept_in_a_table(rt: HostRuntime) {
-    let alloc = rt.alloc();
-    let conn = with_table(alloc).expect(&rt, "a table");
-    let kept = keeps(alloc, conn);
-    assert!(rt; kept);
-    for (statement, wanted) in STATEMENTS {
-        let conn = with_table(alloc).expect(&rt, "a table");
-        let refused = refuses(conn, *statement);
-        assert!(rt; refused == Some(*wanted), "{statement}");
-    }
+    assert!(rt; go_so(rt.alloc(), STATEMENTS) == Some(true));
 }

@@ -16,7 +16,6 @@ use hub_store::{HubOption, MemStore, StoreFault, Unopened, open_store};
 use journal_keeper::{Keeping, MemKeeper};
 use std::alloc::Global;
 use std::sync::Wait;
-use std::test::*;
 use trial_desk::{caps_of, choices_of, registration_of};
 
 /// The head of a journal has so many bytes.
@@ -226,133 +225,181 @@ fn without(bytes: &[u8], count: usize) -> &[u8] {
     front_of(bytes, bytes.len().saturating_sub(count))
 }
 
-#[test]
-fn a_journal_begins_where_no_head_is_whole(rt: HostRuntime) -> Result<(), Fail> {
-    let alloc = rt.alloc();
-    let whole = journal(&rt, alloc, Before::Session).ok_or("a journal")?;
-    for count in [0, 1, 56] {
-        let front = front_of(whole.as_bytes(), count);
-        let came = came(&rt, alloc, front, HubConfig::default(), &[]).ok_or("memory")?;
-        assert!(rt; came.node == Some(1) && came.aside.is_none(), "another hub");
-        let head = front_of(whole.as_bytes(), HEAD_BYTES);
-        assert!(rt; keeps(alloc, came, head), "another journal");
-    }
-    Ok(())
-}
-
-#[test]
-fn a_hub_goes_on_behind_the_last_whole_entry(rt: HostRuntime) -> Result<(), Fail> {
-    let alloc = rt.alloc();
-    let whole = journal(&rt, alloc, Before::Session).ok_or("a journal")?;
-    // None of the last entry is cut off, one byte, all but one, and all of it.
-    for (cut, last) in [(0, 0), (1, LAST_BYTES), (25, LAST_BYTES), (26, LAST_BYTES)] {
-        let found = without(whole.as_bytes(), cut);
-        let came = came(&rt, alloc, found, HubConfig::default(), &[]).ok_or("memory")?;
-        // The node has its name still.
-        assert!(rt; came.node.is_none() && came.aside.is_none(), "another hub");
-        assert!(rt;
-            keeps(alloc, came, without(whole.as_bytes(), last)),
-            "another journal"
-        );
-    }
-    Ok(())
-}
-
-#[test]
-fn what_is_no_journal_of_this_hub_is_left(rt: HostRuntime) -> Result<(), Fail> {
-    let alloc = rt.alloc();
-    let whole = journal(&rt, alloc, Before::Session).ok_or("a journal")?;
-    let length = whole.as_bytes().len();
-    let last = whole
-        .as_bytes()
-        .get(length.saturating_sub(LAST_BYTES)..)
-        .ok_or("an entry")?;
-    let mut twice = Vec::from_slice(alloc, whole.as_bytes())?;
-    twice.extend_from_slice(last)?;
-    let mut worse = Vec::from_slice(alloc, whole.as_bytes())?;
-    worse.extend_from_slice(&[255; 9])?;
-    let rows = [
-        (b"GRIDJ002".as_slice(), Verdict::NotJournal),
-        (twice.as_slice(), Verdict::Illegal { entry: 6 }),
-        (worse.as_slice(), Verdict::Bad { at: length as u64 }),
-    ];
-    for (bytes, verdict) in &rows {
-        let came = came(&rt, alloc, *bytes, HubConfig::default(), &[]).ok_or("memory")?;
-        assert!(rt;
-            refuses(&came, StoreFault::Verdict(*verdict)),
-            "another verdict"
-        );
-    }
-    let other = HubConfig {
+/// A hub that ends the sessions of another number of idle milliseconds.
+fn other_config() -> HubConfig
+    ensures { IsValid result }
+{
+    HubConfig {
         idle_ms: 600_000,
         ..HubConfig::default()
-    };
-    let came = came(&rt, alloc, whole.as_bytes(), other, &[]).ok_or("memory")?;
-    let fault = StoreFault::Option(HubOption::SessionTimeout);
-    assert!(rt; refuses(&came, fault), "another option");
-    Ok(())
-}
-
-#[test]
-fn a_journal_in_which_nothing_goes_on_is_put_aside(rt: HostRuntime) -> Result<(), Fail> {
-    let alloc = rt.alloc();
-    let whole = journal(&rt, alloc, Before::Removed).ok_or("a journal")?;
-    let other = HubConfig {
-        idle_ms: 600_000,
-        ..HubConfig::default()
-    };
-    let came = came(&rt, alloc, whole.as_bytes(), other, &[]).ok_or("memory")?;
-    let aside = came.aside.as_ref().ok_or("what was put aside")?;
-    assert!(rt; aside.as_bytes() == whole.as_bytes(), "other bytes");
-    // Node 1 was removed.
-    assert!(rt; came.node == Some(2), "another number");
-    Ok(())
-}
-
-#[test]
-fn a_session_of_a_closing_slot_is_asked_to_end(rt: HostRuntime) -> Result<(), Fail> {
-    let alloc = rt.alloc();
-    for (before, session) in [
-        (Before::Session, b"a".as_slice()),
-        (Before::LeftOver, b"left"),
-    ] {
-        let whole = journal(&rt, alloc, before).ok_or("a journal")?;
-        let came = came(&rt, alloc, whole.as_bytes(), HubConfig::default(), &[]).ok_or("memory")?;
-        assert!(rt;
-            came.asked == SessionId::from_bytes(session),
-            "another session"
-        );
     }
-    Ok(())
 }
 
-/// How many calls of the store there are at these bytes, each of which may fail, and the last alone is one that hands them over.
-fn calls<R: Wait>(rt: &R, alloc: Global, bytes: &[u8]) -> Option<u64> {
-    for number in 0..64 {
-        let came = came(rt, alloc, bytes, HubConfig::default(), &[number])?;
-        if came.fault.is_none() {
-            return Some(number);
-        }
-        if came.fault != Some(StoreFault::Failed) {
-            return None;
+/// Whether the hub of these bytes lists a node of the name under this number, keeps a journal that begins so, and put nothing aside.
+fn goes_on<R: Wait>(
+    rt: &R,
+    alloc: Global,
+    found: &[u8],
+    node: Option<NodeNo>,
+    front: &[u8],
+) -> bool {
+    match came(rt, alloc, found, HubConfig::default(), &[]) {
+        Some(came) => { came.node == node && came.aside.is_none() && keeps(alloc, came, front) }
+        None => false,
+    }
+}
+
+/// How many bytes of the journal there are where a hub begins anew.
+const SHORT: &[usize] = &[0, 1, 56];
+
+/// How many bytes are cut off, and how many bytes fewer its hub goes on with: none of the last entry is cut off, one byte, all but one,
+/// and all of it.
+const CUTS: &[(usize, usize)] = &[(0, 0), (1, LAST_BYTES), (25, LAST_BYTES), (26, LAST_BYTES)];
+
+fn begin_anew<R: Wait>(rt: &R, alloc: Global, whole: &[u8], counts: &[usize]) -> bool {
+    for count in counts {
+        let head = front_of(whole, HEAD_BYTES);
+        if !goes_on(rt, alloc, front_of(whole, *count), Some(1), head) {
+            return false;
         }
     }
-    None
+    true
+}
+
+/// The node has its name still.
+fn go_on<R: Wait>(rt: &R, alloc: Global, whole: &[u8], cuts: &[(usize, usize)]) -> bool {
+    for (cut, last) in cuts {
+        if !goes_on(rt, alloc, without(whole, *cut), None, without(whole, *last)) {
+            return false;
+        }
+    }
+    true
+}
+
+fn cuts_go<R: Wait>(rt: &R, alloc: Global) -> Option<bool> {
+    let whole = journal(rt, alloc, Before::Session)?;
+    Some(begin_anew(rt, alloc, whole.as_bytes(), SHORT) && go_on(rt, alloc, whole.as_bytes(), CUTS))
 }
 
 #[test]
-fn each_call_of_a_store_fails_in_turn(rt: HostRuntime) -> Result<(), Fail> {
-    let alloc = rt.alloc();
-    let session = journal(&rt, alloc, Before::Session).ok_or("a journal")?;
-    let removed = journal(&rt, alloc, Before::Removed).ok_or("a journal")?;
-    let bytes = [b"".as_slice(), session.as_bytes(), removed.as_bytes()];
-    for found in &bytes {
-        let calls = calls(&rt, alloc, *found).ok_or("an answer")?;
-        // Pieces of 64 bytes, the end of them, and what hands them over.
-        assert!(rt;
-            calls as usize == found.len().div_ceil(64) + 2,
-            "other calls"
-        );
+fn a_hub_goes_on_behind_the_last_whole_entry(rt: HostRuntime) {
+    assert!(rt; cuts_go(&rt, rt.alloc()) == Some(true));
+}
+
+/// Whether the bytes are left as they are, for this reason.
+fn is_left<R: Wait>(
+    rt: &R,
+    alloc: Global,
+    bytes: &[u8],
+    config: HubConfig,
+    fault: StoreFault,
+) -> bool
+    requires { IsValid config }
+{
+    match came(rt, alloc, bytes, config, &[]) {
+        Some(came) => refuses(&came, fault),
+        None => false,
     }
-    Ok(())
+}
+
+/// Whether the bytes with these behind them get this verdict.
+fn is_found<R: Wait>(
+    rt: &R,
+    alloc: Global,
+    bytes: &[u8],
+    more: &[u8],
+    verdict: Verdict,
+) -> Option<bool> {
+    let mut all = Vec::from_slice(alloc, bytes).ok()?;
+    all.extend_from_slice(more).ok()?;
+    let fault = StoreFault::Verdict(verdict);
+    Some(is_left(rt, alloc, all.as_slice(), HubConfig::default(), fault))
+}
+
+/// No journal; the last entry twice; bytes that are no entry; and a journal under another option.
+fn are_left<R: Wait>(rt: &R, alloc: Global, whole: &[u8]) -> Option<bool> {
+    let length = whole.len();
+    let last = whole.get(length.saturating_sub(LAST_BYTES)..)?;
+    let option = StoreFault::Option(HubOption::SessionTimeout);
+    Some(
+        is_found(rt, alloc, b"GRIDJ002", b"", Verdict::NotJournal)?
+            && is_found(rt, alloc, whole, last, Verdict::Illegal { entry: 6 })?
+            && is_found(
+                rt,
+                alloc,
+                whole,
+                &[255; 9],
+                Verdict::Bad { at: length as u64 },
+            )?
+            && is_left(rt, alloc, whole, other_config(), option),
+    )
+}
+
+fn others_are_left<R: Wait>(rt: &R, alloc: Global) -> Option<bool> {
+    let whole = journal(rt, alloc, Before::Session)?;
+    are_left(rt, alloc, whole.as_bytes())
+}
+
+#[test]
+fn what_is_no_journal_of_this_hub_is_left(rt: HostRuntime) {
+    assert!(rt; others_are_left(&rt, rt.alloc()) == Some(true));
+}
+
+/// Node 1 was removed.
+fn is_put_aside<R: Wait>(rt: &R, alloc: Global) -> Option<bool> {
+    let whole = journal(rt, alloc, Before::Removed)?;
+    let came = came(rt, alloc, whole.as_bytes(), other_config(), &[])?;
+    let aside = match &came.aside {
+        Some(aside) => aside.as_bytes() == whole.as_bytes(),
+        None => false,
+    };
+    Some(aside && came.node == Some(2))
+}
+
+#[test]
+fn a_journal_in_which_nothing_goes_on_is_put_aside(rt: HostRuntime) {
+    assert!(rt; is_put_aside(&rt, rt.alloc()) == Some(true));
+}
+
+/// Whether the session is asked to end.
+fn is_asked<R: Wait>(rt: &R, alloc: Global, before: Before, session: &[u8]) -> Option<bool> {
+    let whole = journal(rt, alloc, before)?;
+    let came = came(rt, alloc, whole.as_bytes(), HubConfig::default(), &[])?;
+    Some(came.asked == SessionId::from_bytes(session))
+}
+
+#[test]
+fn a_session_of_a_closing_slot_is_asked_to_end(rt: HostRuntime) {
+    assert!(rt; is_asked(&rt, rt.alloc(), Before::Session, b"a") == Some(true));
+    assert!(rt; is_asked(&rt, rt.alloc(), Before::LeftOver, b"left") == Some(true));
+}
+
+/// Whether each call of the store fails in turn, of as many as there are: pieces of 64 bytes, the end of them, and what hands them over.
+fn fail_in_turn<R: Wait>(rt: &R, alloc: Global, bytes: &[u8]) -> bool {
+    let calls = bytes.len().div_ceil(64).saturating_add(2) as u64;
+    for number in 0..calls {
+        match came(rt, alloc, bytes, HubConfig::default(), &[number]) {
+            Some(came) if came.fault == Some(StoreFault::Failed) => {}
+            _ => return false,
+        }
+    }
+    match came(rt, alloc, bytes, HubConfig::default(), &[calls]) {
+        Some(came) => came.fault.is_none(),
+        None => false,
+    }
+}
+
+fn all_fail<R: Wait>(rt: &R, alloc: Global) -> Option<bool> {
+    let session = journal(rt, alloc, Before::Session)?;
+    let removed = journal(rt, alloc, Before::Removed)?;
+    Some(
+        fail_in_turn(rt, alloc, b"")
+            && fail_in_turn(rt, alloc, session.as_bytes())
+            && fail_in_turn(rt, alloc, removed.as_bytes()),
+    )
+}
+
+#[test]
+fn each_call_of_a_store_fails_in_turn(rt: HostRuntime) {
+    assert!(rt; all_fail(&rt, rt.alloc()) == Some(true));
 }

@@ -1,6 +1,5 @@
 //! Requests and responses, spelled out.
 use std::alloc::Global;
-use std::test::Fail;
 
 /// A request.
 #[derive(Clone, Copy)]
@@ -32,33 +31,37 @@ pub enum Answered {
     Continue,
 }
 
+/// Puts the head and the body behind it.
+fn put(bytes: &mut Vec<u8>, head: &str, body: &str) -> Option<()> {
+    bytes.extend_from_slice(head.as_bytes()).ok()?;
+    bytes.extend_from_slice(body.as_bytes()).ok()
+}
+
+/// A POST with a body.
+fn send(alloc: Global, bytes: &mut Vec<u8>, path: &str, body: &str) -> Option<()> {
+    let size = body.len();
+    let head = format!(in alloc;
+        "POST {path} HTTP/1.1\r\nHost: h\r\nContent-Length: {size}\r\n\r\n"
+    ).ok()?;
+    put(bytes, head.as_str(), body)
+}
+
+/// A request without a body.
+fn bare(alloc: Global, bytes: &mut Vec<u8>, method: &str, path: &str) -> Option<()> {
+    let head = format!(in alloc; "{method} {path} HTTP/1.1\r\nHost: h\r\n\r\n").ok()?;
+    put(bytes, head.as_str(), "")
+}
+
 /// Puts the request last.
-pub fn ask(alloc: Global, bytes: &mut Vec<u8>, asked: &Asked) -> Result<(), Fail> {
-    let text = match asked {
-        Asked::New(body) => {
-            let size = body.len();
-            format!(in alloc;
-                "POST /session HTTP/1.1\r\nHost: h\r\nContent-Length: {size}\r\n\r\n{body}"
-            )?
-        }
-        Asked::Get(path) => format!(in alloc; "GET {path} HTTP/1.1\r\nHost: h\r\n\r\n")?,
-        Asked::Delete(path) => format!(in alloc; "DELETE {path} HTTP/1.1\r\nHost: h\r\n\r\n")?,
-        Asked::Post(path) => {
-            format!(in alloc; "POST {path} HTTP/1.1\r\nHost: h\r\nContent-Length: 0\r\n\r\n")?
-        }
-        Asked::Send(path, body) => {
-            let size = body.len();
-            format!(in alloc;
-                "POST {path} HTTP/1.1\r\nHost: h\r\nContent-Length: {size}\r\n\r\n{body}"
-            )?
-        }
-        Asked::Bytes(raw) => {
-            bytes.extend_from_slice(raw)?;
-            return Ok(());
-        }
-    };
-    bytes.extend_from_slice(text.as_bytes())?;
-    Ok(())
+pub fn ask(alloc: Global, bytes: &mut Vec<u8>, asked: &Asked) -> Option<()> {
+    match asked {
+        Asked::New(body) => send(alloc, bytes, "/session", body),
+        Asked::Get(path) => bare(alloc, bytes, "GET", path),
+        Asked::Delete(path) => bare(alloc, bytes, "DELETE", path),
+        Asked::Post(path) => send(alloc, bytes, path, ""),
+        Asked::Send(path, body) => send(alloc, bytes, path, body),
+        Asked::Bytes(raw) => bytes.extend_from_slice(raw).ok(),
+    }
 }
 
 /// Puts a response with a JSON body last.
@@ -68,13 +71,12 @@ fn respond(
     status: &str,
     close: &str,
     body: &str,
-) -> Result<(), Fail> {
+) -> Option<()> {
     let size = body.len();
-    let text = format!(in alloc;
-        "HTTP/1.1 {status}\r\nContent-Type: application/json; charset=utf-8\r\nCache-Control: no-cache\r\nContent-Length: {size}\r\n{close}\r\n{body}"
-    )?;
-    bytes.extend_from_slice(text.as_bytes())?;
-    Ok(())
+    let head = format!(in alloc;
+        "HTTP/1.1 {status}\r\nContent-Type: application/json; charset=utf-8\r\nCache-Control: no-cache\r\nContent-Length: {size}\r\n{close}\r\n"
+    ).ok()?;
+    put(bytes, head.as_str(), body)
 }
 
 /// Puts the response of an error last.
@@ -85,10 +87,10 @@ fn fail(
     close: &str,
     code: &str,
     message: &str,
-) -> Result<(), Fail> {
+) -> Option<()> {
     let body = format!(in alloc;
         "{{\"value\":{{\"error\":\"{code}\",\"message\":\"{message}\",\"stacktrace\":\"\"}}}}"
-    )?;
+    ).ok()?;
     respond(alloc, bytes, status, close, body.as_str())
 }
 
@@ -96,7 +98,7 @@ fn fail(
 const CLOSE: &str = "Connection: close\r\n";
 
 /// Puts the response last.
-pub fn answer(alloc: Global, bytes: &mut Vec<u8>, answered: &Answered) -> Result<(), Fail> {
+pub fn answer(alloc: Global, bytes: &mut Vec<u8>, answered: &Answered) -> Option<()> {
     match answered {
         Answered::Success(body) => respond(alloc, bytes, "200 OK", "", body),
         Answered::LastSuccess(body) => respond(alloc, bytes, "200 OK", CLOSE, body),
@@ -104,9 +106,6 @@ pub fn answer(alloc: Global, bytes: &mut Vec<u8>, answered: &Answered) -> Result
         Answered::LastError(status, code, message) => {
             fail(alloc, bytes, status, CLOSE, code, message)
         }
-        Answered::Continue => {
-            bytes.extend_from_slice(b"HTTP/1.1 100 Continue\r\n\r\n")?;
-            Ok(())
-        }
+        Answered::Continue => put(bytes, "HTTP/1.1 100 Continue\r\n\r\n", ""),
     }
 }

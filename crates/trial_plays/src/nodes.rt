@@ -1,7 +1,6 @@
 //! Nodes: how they are shown, how they refuse, and how they come and go.
 use crate::messages::{Answered, Asked};
-use crate::rows::{CHROME, CREATED, FIREFOX, NOTHING, Row, holds};
-use std::test::Fail;
+use crate::rows::{CHROME, CREATED, FIREFOX, NOTHING, Row};
 
 const ONE: &[&str] = &["play", "chrome", "1"];
 
@@ -22,7 +21,7 @@ const NO_NODE: Answered = Answered::Error(
     "no registered node has this number",
 );
 
-const ROWS: [Row; 9] = [
+pub(crate) const NODES: &[Row] = &[
     Row {
         words: ONE,
         asked: &[
@@ -128,12 +127,3 @@ const ROWS: [Row; 9] = [
         ],
     },
 ];
-
-#[test]
-fn nodes_come_and_go(rt: HostRuntime) -> Result<(), Fail> {
-    let alloc = rt.alloc();
-    for row in &ROWS {
-        assert!(rt; holds(alloc, row)?);
-    }
-    Ok(())
-}

@@ -2,67 +2,39 @@
 ghost use Rattle.std.specs.Prelude.{◌≡◌, ℕ, ◌<◌, ◌≤◌, length, None};
 
 use crate::messages::{Answered, Asked};
-use crate::rows::{CHROME, CREATED, front, input_of, output_of, played, texts};
+use crate::rows::{CHROME, CREATED, comes_to, input_of, output_of, status_of, texts};
 use grid_outside::{Failed, MemSink, Source};
-use grid_play::run;
+use grid_types::Text;
 use std::alloc::Global;
-use std::test::Fail;
 
-/// Whether a session is created, over pieces of so many bytes each way.
-fn creates_in(alloc: Global, piece: usize) -> Result<bool, Fail>
-    requires { 0 < piece }
-{
-    let input = input_of(alloc, &[Asked::New(CHROME)])?;
-    let expected = output_of(alloc, &[Answered::Success(CREATED)])?;
-    let mut output = MemSink::new(alloc, piece, Vec::new(alloc));
-    let status = played(
-        alloc,
-        &["play", "chrome", "1"],
-        input.as_slice(),
-        piece,
-        &[],
-        &mut output,
-    )?;
-    Ok(status == 0 && output.taken() == expected.as_slice())
-}
+const ONE: &[&str] = &["play", "chrome", "1"];
 
-#[test]
-fn any_pieces_give_the_same(rt: HostRuntime) -> Result<(), Fail> {
-    let alloc = rt.alloc();
+/// Whether the input is answered so over pieces of each size from 1 to 112 bytes each way.
+fn are_all_answered(alloc: Global, input: &[u8], expected: &[u8]) -> bool {
     for piece in 1..113 {
-        assert!(rt; creates_in(alloc, piece)?);
+        if !comes_to(alloc, ONE, input, piece, 0, expected) {
+            return false;
+        }
     }
-    Ok(())
+    true
 }
 
-/// Whether an input that is cut there is answered so, with status 0.
-fn is_answered_to(
-    alloc: Global,
-    input: &[u8],
-    cut: usize,
-    answered: &[Answered],
-) -> Result<bool, Fail> {
-    let expected = output_of(alloc, answered)?;
-    let mut output = MemSink::new(alloc, 11, Vec::new(alloc));
-    let words = ["play", "chrome", "1"];
-    let status = played(alloc, &words, front(input, cut)?, 37, &[], &mut output)?;
-    Ok(status == 0 && output.taken() == expected.as_slice())
+/// Whether an input that is cut there is answered so: what is whole is answered, and a request that is cut is not.
+fn is_answered_to(alloc: Global, input: &[u8], cut: usize, expected: &[u8]) -> bool {
+    let answered: &[u8] = if cut < 112 { &[] } else { expected };
+    match input.get(..cut) {
+        Some(front) => comes_to(alloc, ONE, front, 37, 0, answered),
+        None => false,
+    }
 }
 
-/// What is whole is answered, and a request that is cut is not.
-#[test]
-fn an_input_may_be_cut_at_each_byte(rt: HostRuntime) -> Result<(), Fail> {
-    let alloc = rt.alloc();
-    let input = input_of(alloc, &[Asked::New(CHROME), Asked::New(CHROME)])?;
-    assert_eq!(rt; input.len(), 224);
-    for cut in 0..112 {
-        assert!(rt; is_answered_to(alloc, input.as_slice(), cut, &[])?);
+fn are_answered_to(alloc: Global, input: &[u8], expected: &[u8]) -> bool {
+    for cut in 0..224 {
+        if !is_answered_to(alloc, input, cut, expected) {
+            return false;
+        }
     }
-    let first = [Answered::Success(CREATED)];
-    for cut in 112..224 {
-        assert!(rt; is_answered_to(alloc, input.as_slice(), cut, &first)?);
-    }
-    Ok(())
+    true
 }
 
 /// Gives the bytes before the cut at once, then those behind it, and then its end. It tells nothing of them.
@@ -103,27 +75,52 @@ impl Source for Halves {
     }
 }
 
-/// Whether a session is created where the request comes in two pieces, cut there.
-fn creates_in_halves(alloc: Global, input: &[u8], cut: usize) -> Result<bool, Fail> {
-    let expected = output_of(alloc, &[Answered::Success(CREATED)])?;
-    let words = texts(alloc, &["play", "chrome", "1"])?;
-    let mut source = Halves {
-        bytes: input.to_vec(alloc)?,
+fn two_of(alloc: Global, input: &[u8], cut: usize) -> Option<Halves> {
+    Some(Halves {
+        bytes: input.to_vec(alloc).ok()?,
         at: 0,
         cut,
         ends: 0,
-    };
+    })
+}
+
+/// Whether the request that comes in two pieces, cut there, is answered so.
+fn is_answered_in_halves(
+    alloc: Global,
+    words: &[Text],
+    input: &[u8],
+    cut: usize,
+    expected: &[u8],
+) -> Option<bool> {
+    let mut source = two_of(alloc, input, cut)?;
     let mut output = MemSink::new(alloc, 1_000, Vec::new(alloc));
-    let status = run(alloc, words.as_slice(), &mut source, &mut output);
-    Ok(status == 0 && output.taken() == expected.as_slice())
+    let status = status_of(alloc, words, &mut source, &mut output);
+    Some(status == 0 && output.taken() == expected)
+}
+
+fn are_answered_in_halves(alloc: Global, words: &[Text], input: &[u8], expected: &[u8]) -> bool {
+    for cut in 1..112 {
+        if is_answered_in_halves(alloc, words, input, cut, expected) != Some(true) {
+            return false;
+        }
+    }
+    true
+}
+
+/// A New Session takes 112 bytes.
+fn any_pieces_do(alloc: Global) -> Option<bool> {
+    let input = input_of(alloc, &[Asked::New(CHROME), Asked::New(CHROME)])?;
+    let first = input.get(..112)?;
+    let expected = output_of(alloc, &[Answered::Success(CREATED)])?;
+    let words = texts(alloc, ONE)?;
+    Some(
+        are_all_answered(alloc, first, expected.as_slice())
+            && are_answered_to(alloc, input.as_slice(), expected.as_slice())
+            && are_answered_in_halves(alloc, words.as_slice(), first, expected.as_slice()),
+    )
 }
 
 #[test]
-fn two_pieces_give_the_same(rt: HostRuntime) -> Result<(), Fail> {
-    let alloc = rt.alloc();
-    let input = input_of(alloc, &[Asked::New(CHROME)])?;
-    for cut in 1..112 {
-        assert!(rt; creates_in_halves(alloc, input.as_slice(), cut)?);
-    }
-    Ok(())
+fn any_pieces_give_the_same(rt: HostRuntime) {
+    assert!(rt; any_pieces_do(rt.alloc()) == Some(true));
 }

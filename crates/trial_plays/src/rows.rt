@@ -2,11 +2,13 @@
 ghost use Rattle.std.specs.Prelude.{◌<◌};
 
 use crate::messages::{Answered, Asked, answer, ask};
-use grid_outside::{MemSink, MemSource};
+use crate::nodes::NODES;
+use crate::requests::REQUESTS;
+use crate::sessions::SESSIONS;
+use grid_outside::{MemSink, MemSource, Sink, Source};
 use grid_play::run;
 use grid_types::{Bytes, Text};
 use std::alloc::Global;
-use std::test::Fail;
 
 /// A connection.
 #[derive(Clone, Copy)]
@@ -30,41 +32,43 @@ pub const FIREFOX: &str = "{\"capabilities\":{\"alwaysMatch\":{\"browserName\":\
 pub const NOTHING: &str = "{\"value\":null}";
 
 /// The words as texts.
-pub fn texts(alloc: Global, words: &[&str]) -> Result<Vec<Text>, Fail> {
+pub fn texts(alloc: Global, words: &[&str]) -> Option<Vec<Text>> {
     let mut texts = Vec::new(alloc);
     for word in words {
-        texts.push(Text::of(alloc, word)?)?;
+        texts.push(Text::of(alloc, word).ok()?).ok()?;
     }
-    Ok(texts)
+    Some(texts)
 }
 
 /// The bytes that are asked.
-pub fn input_of(alloc: Global, asked: &[Asked]) -> Result<Vec<u8>, Fail> {
+pub fn input_of(alloc: Global, asked: &[Asked]) -> Option<Vec<u8>> {
     let mut bytes = Vec::new(alloc);
     for one in asked {
         ask(alloc, &mut bytes, one)?;
     }
-    Ok(bytes)
+    Some(bytes)
 }
 
 /// The bytes that are answered.
-pub fn output_of(alloc: Global, answered: &[Answered]) -> Result<Vec<u8>, Fail> {
+pub fn output_of(alloc: Global, answered: &[Answered]) -> Option<Vec<u8>> {
     let mut bytes = Vec::new(alloc);
     for one in answered {
         answer(alloc, &mut bytes, one)?;
     }
-    Ok(bytes)
+    Some(bytes)
 }
 
-/// The first bytes, as many as there have to be.
-pub fn front(bytes: &[u8], count: usize) -> Result<&[u8], Fail> {
-    match bytes.get(..count) {
-        Some(front) => Ok(front),
-        None => Err(Fail::from("fewer bytes than these")),
-    }
+/// The status over any ends, of which a trial asks no clause.
+pub fn status_of<S: Source, K: Sink>(
+    alloc: Global,
+    words: &[Text],
+    source: &mut S,
+    output: &mut K,
+) -> u8 {
+    run(alloc, words, source, output)
 }
 
-/// The status for these words over this input, of which so many bytes come at once.
+/// The status for these words over this input, of which so many bytes come at once. None is out of memory, as everywhere here.
 pub fn played(
     alloc: Global,
     words: &[&str],
@@ -72,23 +76,51 @@ pub fn played(
     piece: usize,
     failing_reads: &[u64],
     output: &mut MemSink,
-) -> Result<u8, Fail>
+) -> Option<u8>
     requires { 0 < piece }
 {
     let words = texts(alloc, words)?;
-    let mut source = MemSource::new(
-        Bytes::of(alloc, input)?,
-        piece,
-        failing_reads.to_vec(alloc)?,
-    );
-    Ok(run(alloc, words.as_slice(), &mut source, output))
+    let bytes = Bytes::of(alloc, input).ok()?;
+    let mut source = MemSource::new(bytes, piece, failing_reads.to_vec(alloc).ok()?);
+    Some(status_of(alloc, words.as_slice(), &mut source, output))
+}
+
+/// Whether these words come to that status over an input that comes in pieces of so many bytes, and write this.
+pub fn comes_to(
+    alloc: Global,
+    words: &[&str],
+    input: &[u8],
+    piece: usize,
+    status: u8,
+    written: &[u8],
+) -> bool
+    requires { 0 < piece }
+{
+    let mut output = MemSink::new(alloc, piece, Vec::new(alloc));
+    played(alloc, words, input, piece, &[], &mut output) == Some(status)
+        && output.taken() == written
 }
 
 /// Whether the row's connection is answered so, with status 0.
-pub fn holds(alloc: Global, row: &Row) -> Result<bool, Fail> {
+fn holds(alloc: Global, row: &Row) -> Option<bool> {
     let input = input_of(alloc, row.asked)?;
     let expected = output_of(alloc, row.answered)?;
-    let mut output = MemSink::new(alloc, 1_000, Vec::new(alloc));
-    let status = played(alloc, row.words, input.as_slice(), 1_000, &[], &mut output)?;
-    Ok(status == 0 && output.taken() == expected.as_slice())
+    let (input, expected) = (input.as_slice(), expected.as_slice());
+    Some(comes_to(alloc, row.words, input, 1_000, 0, expected))
+}
+
+fn all_hold(alloc: Global, rows: &[Row]) -> bool {
+    for row in rows {
+        if holds(alloc, row) != Some(true) {
+            return false;
+        }
+    }
+    true
+}
+
+#[test]
+fn connections_are_answered(rt: HostRuntime) {
+    assert!(rt; all_hold(rt.alloc(), REQUESTS));
+    assert!(rt; all_hold(rt.alloc(), SESSIONS));
+    assert!(rt; all_hold(rt.alloc(), NODES));
 }

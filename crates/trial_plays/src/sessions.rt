@@ -1,7 +1,6 @@
 //! Sessions that are used, ended and left alone.
 use crate::messages::{Answered, Asked};
-use crate::rows::{CHROME, CREATED, NOTHING, Row, holds};
-use std::test::Fail;
+use crate::rows::{CHROME, CREATED, NOTHING, Row};
 
 const ONE: &[&str] = &["play", "chrome", "1"];
 
@@ -9,7 +8,7 @@ const PATH: &str = "/session/00000000-0000-0001-0000-000000000001";
 
 const URL: &str = "/session/00000000-0000-0001-0000-000000000001/url";
 
-const ROWS: [Row; 5] = [
+pub(crate) const SESSIONS: &[Row] = &[
     Row {
         words: ONE,
         asked: &[
@@ -90,12 +89,3 @@ const ROWS: [Row; 5] = [
         ],
     },
 ];
-
-#[test]
-fn sessions_run_and_end(rt: HostRuntime) -> Result<(), Fail> {
-    let alloc = rt.alloc();
-    for row in &ROWS {
-        assert!(rt; holds(alloc, row)?);
-    }
-    Ok(())
-}

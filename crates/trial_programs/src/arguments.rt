@@ -1,7 +1,7 @@
 //! Words of the programs with what they say.
 use crate::lists::list;
 use server_words::*;
-use std::alloc::{AllocError, Global};
+use std::alloc::Global;
 use std::net::{IpAddr, Ipv4Addr, Ipv6Addr};
 
 fn is_that_hub(words: &HubWords) -> bool {
@@ -12,13 +12,12 @@ fn is_that_hub(words: &HubWords) -> bool {
         && words.config.timeout_ms == 300_000
 }
 
-fn is_hub_said(alloc: Global) -> Result<bool, AllocError> {
-    let given: &[&str] = &["--port", "+080", "--workers=-0", "--session-timeout", "10"];
-    let list = list(alloc, given)?;
-    match hub_words(alloc, list.as_slice()) {
-        Ok(words) => Ok(is_that_hub(&words)),
-        Err(_) => Ok(false),
-    }
+const HUB: &[&str] = &["--port", "+080", "--workers=-0", "--session-timeout", "10"];
+
+fn is_hub_said(alloc: Global) -> Option<bool> {
+    let list = list(alloc, HUB)?;
+    let words = hub_words(alloc, list.as_slice()).ok()?;
+    Some(is_that_hub(&words))
 }
 
 const NO_HUB: &[&[&str]] = &[
@@ -31,21 +30,19 @@ const NO_HUB: &[&[&str]] = &[
     &["--reject-unsupported-caps", "yes"],
 ];
 
-fn is_no_hub(alloc: Global, words: &[&str]) -> Result<bool, AllocError> {
+fn is_no_hub(alloc: Global, words: &[&str]) -> Option<bool> {
     let list = list(alloc, words)?;
     let said = hub_words(alloc, list.as_slice());
-    Ok(matches!(said, Err(WordsFault::Refused)))
+    Some(matches!(said, Err(WordsFault::Refused)))
 }
 
-#[test]
-fn words_of_the_hub(rt: HostRuntime) -> Result<(), AllocError> {
-    let said = is_hub_said(rt.alloc())?;
-    assert!(rt; said);
-    for words in NO_HUB {
-        let refused = is_no_hub(rt.alloc(), words)?;
-        assert!(rt; refused, "{words:?}");
+fn are_no_hubs(alloc: Global, rows: &[&[&str]]) -> bool {
+    for words in rows {
+        if is_no_hub(alloc, words) != Some(true) {
+            return false;
+        }
     }
-    Ok(())
+    true
 }
 
 /// Words, and where the hub listens by them.
@@ -65,18 +62,18 @@ const HOSTS: &[(&[&str], Option<IpAddr>)] = &[
     (&["--hosts", "127.0.0.1"], None),
 ];
 
-fn host(alloc: Global, words: &[&str]) -> Result<Option<IpAddr>, AllocError> {
+fn host(alloc: Global, words: &[&str]) -> Option<Option<IpAddr>> {
     let list = list(alloc, words)?;
-    Ok(hub_host(alloc, list.as_slice()).ok())
+    Some(hub_host(alloc, list.as_slice()).ok())
 }
 
-#[test]
-fn hosts_of_the_hub(rt: HostRuntime) -> Result<(), AllocError> {
-    for (words, due) in HOSTS {
-        let said = host(rt.alloc(), words)?;
-        assert!(rt; said == *due, "{words:?}");
+fn are_hosts(alloc: Global, rows: &[(&[&str], Option<IpAddr>)]) -> bool {
+    for (words, due) in rows {
+        if host(alloc, words) != Some(*due) {
+            return false;
+        }
     }
-    Ok(())
+    true
 }
 
 fn is_that_node(words: &NodeWords) -> bool {
@@ -87,32 +84,27 @@ fn is_that_node(words: &NodeWords) -> bool {
         && words.slots == 64
 }
 
-fn is_node_said(alloc: Global) -> Result<bool, AllocError> {
-    let given: &[&str] = &["--hub=localhost:4444", "--slots", "64"];
-    let list = list(alloc, given)?;
-    match node_words(alloc, list.as_slice()) {
-        Ok(words) => Ok(is_that_node(&words)),
-        Err(_) => Ok(false),
-    }
+fn is_node_said(alloc: Global) -> Option<bool> {
+    let list = list(alloc, &["--hub=localhost:4444", "--slots", "64"])?;
+    let words = node_words(alloc, list.as_slice()).ok()?;
+    Some(is_that_node(&words))
 }
 
 const NO_NODE: &[&[&str]] = &[&["--slots", "0"], &["--hub", ""], &["--hub", "a b"]];
 
-fn is_no_node(alloc: Global, words: &[&str]) -> Result<bool, AllocError> {
+fn is_no_node(alloc: Global, words: &[&str]) -> Option<bool> {
     let list = list(alloc, words)?;
     let said = node_words(alloc, list.as_slice());
-    Ok(matches!(said, Err(WordsFault::Refused)))
+    Some(matches!(said, Err(WordsFault::Refused)))
 }
 
-#[test]
-fn words_of_the_node(rt: HostRuntime) -> Result<(), AllocError> {
-    let said = is_node_said(rt.alloc())?;
-    assert!(rt; said);
-    for words in NO_NODE {
-        let refused = is_no_node(rt.alloc(), words)?;
-        assert!(rt; refused, "{words:?}");
+fn are_no_nodes(alloc: Global, rows: &[&[&str]]) -> bool {
+    for words in rows {
+        if is_no_node(alloc, words) != Some(true) {
+            return false;
+        }
     }
-    Ok(())
+    true
 }
 
 fn is_that_driver(words: &AttachWords) -> bool {
@@ -123,18 +115,17 @@ fn is_that_driver(words: &AttachWords) -> bool {
         && words.platform.as_str() == "linux"
 }
 
-fn is_driver_said(alloc: Global) -> Result<bool, AllocError> {
-    let given: &[&str] = &[
-        "--driver=http://localhost:4445/",
-        "--once",
-        "--browser-version",
-        "126.0",
-    ];
-    let list = list(alloc, given)?;
-    match attach_words(alloc, list.as_slice()) {
-        Ok(words) => Ok(is_that_driver(&words)),
-        Err(_) => Ok(false),
-    }
+const DRIVER: &[&str] = &[
+    "--driver=http://localhost:4445/",
+    "--once",
+    "--browser-version",
+    "126.0",
+];
+
+fn is_driver_said(alloc: Global) -> Option<bool> {
+    let list = list(alloc, DRIVER)?;
+    let words = attach_words(alloc, list.as_slice()).ok()?;
+    Some(is_that_driver(&words))
 }
 
 /// Words, and what the reason begins with.
@@ -157,26 +148,43 @@ const NO_DRIVER: &[(&[&str], &str)] = &[
     ),
 ];
 
-fn begins(alloc: Global, fault: &AttachFault, reason: &str) -> Result<bool, AllocError> {
-    let text = format!(in alloc; "{fault}")?;
-    Ok(text.as_str().starts_with(reason))
+fn begins(alloc: Global, fault: &AttachFault, reason: &str) -> bool {
+    match format!(in alloc; "{fault}") {
+        Ok(text) => text.as_str().starts_with(reason),
+        Err(_) => false,
+    }
 }
 
-fn is_no_driver(alloc: Global, words: &[&str], reason: &str) -> Result<bool, AllocError> {
+fn is_no_driver(alloc: Global, words: &[&str], reason: &str) -> Option<bool> {
     let list = list(alloc, words)?;
     match attach_words(alloc, list.as_slice()) {
-        Ok(_) => Ok(false),
-        Err(fault) => begins(alloc, &fault, reason),
+        Ok(_) => Some(false),
+        Err(fault) => Some(begins(alloc, &fault, reason)),
     }
+}
+
+fn are_no_drivers(alloc: Global, rows: &[(&[&str], &str)]) -> bool {
+    for (words, reason) in rows {
+        if is_no_driver(alloc, words, *reason) != Some(true) {
+            return false;
+        }
+    }
+    true
 }
 
 #[test]
-fn words_of_a_driver(rt: HostRuntime) -> Result<(), AllocError> {
-    let said = is_driver_said(rt.alloc())?;
-    assert!(rt; said);
-    for (words, reason) in NO_DRIVER {
-        let refused = is_no_driver(rt.alloc(), words, reason)?;
-        assert!(rt; refused, "{reason}");
-    }
-    Ok(())
+fn programs_take_their_words(rt: HostRuntime) {
+    let alloc = rt.alloc();
+    assert!(rt; is_hub_said(alloc) == Some(true));
+    assert!(rt; is_node_said(alloc) == Some(true));
+    assert!(rt; is_driver_said(alloc) == Some(true));
+}
+
+#[test]
+fn programs_refuse_other_words(rt: HostRuntime) {
+    let alloc = rt.alloc();
+    assert!(rt; are_no_hubs(alloc, NO_HUB));
+    assert!(rt; are_hosts(alloc, HOSTS));
+    assert!(rt; are_no_nodes(alloc, NO_NODE));
+    assert!(rt; are_no_drivers(alloc, NO_DRIVER));
 }

@@ -1,49 +1,53 @@
 //! A driver that is put behind a hub, both in memory.
 use crate::lists::list;
 use grid_attach::{attach, attach_main};
-use grid_outside::{Exchange, MemClock, MemNodes, NodeReply, Reply};
-use grid_types::{Bytes, Moment, NoMemory, NodeNo, Text};
+use grid_outside::{Clock, Exchange, MemClock, MemNodes, NodeLink, NodeReply, Reply};
+use grid_types::{Bytes, Moment, NodeNo, Text};
 use server_words::attach_words;
-use std::alloc::{AllocError, Global};
-use std::process::Abort;
+use std::alloc::Global;
 
 /// A status and a body.
 type Answer = (u16, &'static str);
 
-fn reply(alloc: Global, answer: &Answer) -> Result<Reply, NoMemory> {
+fn reply(alloc: Global, answer: &Answer) -> Option<Reply> {
     let (status, body) = *answer;
-    let reason = Bytes::of(alloc, b"")?;
-    Ok(Reply::Http(NodeReply {
+    Some(Reply::Http(NodeReply {
         status,
-        reason,
+        reason: Bytes::of(alloc, b"").ok()?,
         content_type: None,
         content_encoding: None,
         cache_control: None,
-        body: Bytes::of(alloc, body.as_bytes())?,
+        body: Bytes::of(alloc, body.as_bytes()).ok()?,
     }))
 }
 
-fn answer(alloc: Global, nodes: &mut MemNodes, answers: &[Answer]) -> Result<(), NoMemory> {
+fn answer(alloc: Global, nodes: &mut MemNodes, answers: &[Answer]) -> Option<()> {
     for answer in answers {
-        if nodes.push(reply(alloc, answer)?).is_err() {
-            return Err(NoMemory);
-        }
+        nodes.push(reply(alloc, answer)?).ok()?;
     }
-    Ok(())
+    Some(())
+}
+
+/// So many looks over any ends, of which a trial asks no clause: Ok where the words and the memory do.
+fn attached<N: NodeLink, C: Clock>(
+    alloc: Global,
+    words: &[Text],
+    nodes: &mut N,
+    clock: &mut C,
+    looks: u64,
+) -> bool {
+    attach_main(alloc, words, nodes, clock, looks).is_ok()
 }
 
 /// Looks at a driver five times, as these words say.
-fn five_looks(
+fn five_looks<N: NodeLink, C: Clock>(
     alloc: Global,
-    words: &[&str],
-    nodes: &mut MemNodes,
-    clock: &mut MemClock,
-) -> Result<Option<NodeNo>, NoMemory> {
-    let words = list(alloc, words)?;
-    match attach_words(alloc, words.as_slice()) {
-        Ok(said) => attach(alloc, nodes, clock, &said, 5),
-        Err(_) => Err(NoMemory),
-    }
+    words: &[Text],
+    nodes: &mut N,
+    clock: &mut C,
+) -> Option<Option<NodeNo>> {
+    let said = attach_words(alloc, words).ok()?;
+    attach(alloc, nodes, clock, &said, 5).ok()
 }
 
 const FIVE_LOOKS: &[Answer] = &[
@@ -58,27 +62,24 @@ const FIVE_LOOKS: &[Answer] = &[
     (200, "{\"value\":{\"node\":8}}"),
 ];
 
-fn looks(
-    rt: &impl Abort,
-    alloc: Global,
-    nodes: &mut MemNodes,
-    clock: &mut MemClock,
-) -> Result<(), NoMemory> {
+fn looks(alloc: Global, nodes: &mut MemNodes, clock: &mut MemClock) -> Option<bool> {
     answer(alloc, nodes, FIVE_LOOKS)?;
     let number = five_looks(alloc, &[], nodes, clock)?;
-    assert!(rt; number == Some(8) && nodes.made().len() == 9);
-    assert!(rt; clock.paused_ms() == 1_000 + 30_000 + 30_000 + 1_000 + 30_000);
-    Ok(())
+    Some(
+        number == Some(8)
+            && nodes.made().len() == 9
+            && clock.paused_ms() == 1_000 + 30_000 + 30_000 + 1_000 + 30_000,
+    )
 }
 
 /// The driver is not ready at first, then it is registered and a beat is taken; the hub refuses the next beat, and the driver
 /// is registered again.
 #[test]
-fn a_driver_is_put_behind_the_hub(rt: HostRuntime) -> Result<(), NoMemory> {
+fn a_driver_is_put_behind_the_hub(rt: HostRuntime) {
     let alloc = rt.alloc();
     let mut nodes = MemNodes::new(alloc, Vec::new(alloc));
     let mut clock = MemClock::new(Moment(0));
-    looks(&rt, alloc, &mut nodes, &mut clock)
+    assert!(rt; looks(alloc, &mut nodes, &mut clock) == Some(true));
 }
 
 const REFUSED_BEAT: &[Answer] = &[
@@ -88,26 +89,20 @@ const REFUSED_BEAT: &[Answer] = &[
     (400, ""),
 ];
 
-fn ends(
-    rt: &impl Abort,
-    alloc: Global,
-    nodes: &mut MemNodes,
-    clock: &mut MemClock,
-) -> Result<(), NoMemory> {
+fn ends(alloc: Global, nodes: &mut MemNodes, clock: &mut MemClock) -> Option<bool> {
     answer(alloc, nodes, REFUSED_BEAT)?;
-    let number = five_looks(alloc, &["--once"], nodes, clock)?;
-    assert!(rt; number.is_none() && nodes.made().len() == 4);
-    assert!(rt; clock.paused_ms() == 30_000);
-    Ok(())
+    let words = list(alloc, &["--once"])?;
+    let number = five_looks(alloc, words.as_slice(), nodes, clock)?;
+    Some(number.is_none() && nodes.made().len() == 4 && clock.paused_ms() == 30_000)
 }
 
 /// One that is to be there once ends where its beat is refused.
 #[test]
-fn a_driver_is_there_once(rt: HostRuntime) -> Result<(), NoMemory> {
+fn a_driver_is_there_once(rt: HostRuntime) {
     let alloc = rt.alloc();
     let mut nodes = MemNodes::new(alloc, Vec::new(alloc));
     let mut clock = MemClock::new(Moment(0));
-    ends(&rt, alloc, &mut nodes, &mut clock)
+    assert!(rt; ends(alloc, &mut nodes, &mut clock) == Some(true));
 }
 
 const ONE_LOOK: &[Answer] = &[(200, ""), (200, "{\"value\":{\"node\":7}}")];
@@ -126,37 +121,31 @@ fn are_asked(made: &[Exchange]) -> bool {
     }
 }
 
-fn registers(
-    rt: &impl Abort,
-    alloc: Global,
-    nodes: &mut MemNodes,
-    words: &[Text],
-) -> Result<(), NoMemory> {
+const WORDS: &[&str] = &[
+    "--name",
+    "d",
+    "--browser-version",
+    "126.0",
+    "--slots=2",
+    "--capability",
+    "acme:build=7",
+    "--capability=acme:team=red",
+];
+
+fn registers(alloc: Global, nodes: &mut MemNodes) -> Option<bool> {
     answer(alloc, nodes, ONE_LOOK)?;
+    let words = list(alloc, WORDS)?;
     let mut clock = MemClock::new(Moment(0));
-    let result = attach_main(alloc, words, nodes, &mut clock, 1);
-    assert!(rt; result.is_ok());
-    assert!(rt; are_asked(nodes.made()));
-    Ok(())
+    let is_attached = attached(alloc, words.as_slice(), nodes, &mut clock, 1);
+    Some(is_attached && are_asked(nodes.made()))
 }
 
 /// What the words say is what the hub is told.
 #[test]
-fn words_become_a_registration(rt: HostRuntime) -> Result<(), NoMemory> {
+fn words_become_a_registration(rt: HostRuntime) {
     let alloc = rt.alloc();
-    let given: &[&str] = &[
-        "--name",
-        "d",
-        "--browser-version",
-        "126.0",
-        "--slots=2",
-        "--capability",
-        "acme:build=7",
-        "--capability=acme:team=red",
-    ];
-    let words = list(alloc, given)?;
     let mut nodes = MemNodes::new(alloc, Vec::new(alloc));
-    registers(&rt, alloc, &mut nodes, words.as_slice())
+    assert!(rt; registers(alloc, &mut nodes) == Some(true));
 }
 
 /// What a driver answers to its status, and what its registration then tells of a version.
@@ -184,36 +173,36 @@ fn is_registered(made: &[Exchange], body: &str) -> bool {
 }
 
 fn tells_version(
-    rt: &impl Abort,
     alloc: Global,
     nodes: &mut MemNodes,
     status: &'static str,
     told: &str,
-) -> Result<(), NoMemory> {
+) -> Option<bool> {
     answer(
         alloc,
         nodes,
         &[(200, status), (200, "{\"value\":{\"node\":7}}")],
     )?;
     let mut clock = MemClock::new(Moment(0));
-    let result = attach_main(alloc, &[], nodes, &mut clock, 1);
+    let is_attached = attached(alloc, &[], nodes, &mut clock, 1);
     let body = format!(in alloc;
         "{{\"name\":\"driver\",\"address\":\"127.0.0.1:9515\",\"maxSessions\":1,\"slots\":[{{\"count\":1,\"stereotype\":{{\"browserName\":\"chrome\"{told},\"platformName\":\"linux\"}}}}]}}"
-    )?;
-    assert!(rt;
-        result.is_ok() && is_registered(nodes.made(), body.as_str()),
-        "{status}"
-    );
-    Ok(())
+    ).ok()?;
+    Some(is_attached && is_registered(nodes.made(), body.as_str()))
+}
+
+fn all_tell(alloc: Global, rows: &[(&'static str, &str)]) -> bool {
+    for (status, told) in rows {
+        let mut nodes = MemNodes::new(alloc, Vec::new(alloc));
+        if tells_version(alloc, &mut nodes, *status, *told) != Some(true) {
+            return false;
+        }
+    }
+    true
 }
 
 /// Where the words say no version, the driver's build is told.
 #[test]
-fn a_build_becomes_a_version(rt: HostRuntime) -> Result<(), NoMemory> {
-    let alloc = rt.alloc();
-    for (status, told) in BUILDS {
-        let mut nodes = MemNodes::new(alloc, Vec::new(alloc));
-        tells_version(&rt, alloc, &mut nodes, status, told)?;
-    }
-    Ok(())
+fn a_build_becomes_a_version(rt: HostRuntime) {
+    assert!(rt; all_tell(rt.alloc(), BUILDS));
 }

@@ -1,27 +1,18 @@
 //! Words as a program gets them.
 use grid_types::Text;
-use std::alloc::{AllocError, Global};
-
-fn put(alloc: Global, list: &mut Vec<Text>, word: &str) -> Result<(), AllocError> {
-    let Ok(text) = Text::of(alloc, word) else {
-        return Err(AllocError);
-    };
-    match list.push(text) {
-        Ok(()) => Ok(()),
-        Err(_) => Err(AllocError),
-    }
-}
+use std::alloc::Global;
 
 // Borrows the list, so that no early return drops it.
-fn put_all(alloc: Global, list: &mut Vec<Text>, words: &[&str]) -> Result<(), AllocError> {
+fn put_all(alloc: Global, list: &mut Vec<Text>, words: &[&str]) -> Option<()> {
     for word in words {
-        put(alloc, list, word)?;
+        list.push(Text::of(alloc, *word).ok()?).ok()?;
     }
-    Ok(())
+    Some(())
 }
 
-pub(crate) fn list(alloc: Global, words: &[&str]) -> Result<Vec<Text>, AllocError> {
+/// The words as texts. None is out of memory, as everywhere here.
+pub(crate) fn list(alloc: Global, words: &[&str]) -> Option<Vec<Text>> {
     let mut list = Vec::new(alloc);
     put_all(alloc, &mut list, words)?;
-    Ok(list)
+    Some(list)
 }

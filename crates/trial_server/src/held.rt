@@ -35,9 +35,9 @@ pub(crate) struct Shared {
     pub(crate) paused: AtomicU64,
     /// How many workers and lines to nodes have asked for starts.
     pub(crate) starters: AtomicU64,
-    /// How many responses with status 200 the third link has taken.
+    /// How many responses with status 200 a node's or an asker's link has taken.
     pub(crate) registered: AtomicU64,
-    /// And the first two.
+    /// And those of clients.
     pub(crate) created: AtomicU64,
     /// How many starts each of the first two of them has asked a node for.
     pub(crate) first_starts: AtomicU64,
@@ -76,10 +76,12 @@ fn reaches(rt: &HostRuntime, number: &AtomicU64, wanted: u64) -> bool {
 /// Whose link it is.
 #[derive(Clone, Copy, Debug, PartialEq, Eq)]
 pub(crate) enum Role {
-    /// The first or the second link.
+    /// It asks for a session.
     Client,
-    /// The third link.
+    /// It registers a node with two slots, once two clients wait.
     Node,
+    /// It registers such a node, which is silent then, and asks for the status, each time 100 ms later, until that tells of no node.
+    Asker,
 }
 
 /// A clock whose moment rises by its pauses alone, each of which takes 1 ms.

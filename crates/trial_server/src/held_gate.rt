@@ -11,26 +11,46 @@ use std::sync::atomic::Ordering;
 use std::thread;
 use std::time::Duration;
 
-/// Gives one request, the node's only once both clients wait, and ends.
+const STATUS: &[u8] = b"GET /status HTTP/1.1\r\n\r\n";
+
+const NO_NODE: &[u8] = b"\"nodes\":[]";
+
+/// More than any asker asks for.
+const MOST: u32 = 10_000;
+
+/// What a link does next.
+enum Next {
+    Gives(&'static [u8]),
+    Waits,
+    Ends,
+}
+
+/// Gives one request and ends; an asker's gives more.
 #[derive(Drop)]
 pub(crate) struct HeldLine<'a> {
     rt: HostRuntime,
     shared: &'a Shared,
     role: Role,
-    has_given: bool,
+    /// How many requests it gave.
+    given: u32,
+    /// The last response told of no node.
+    is_empty: bool,
     ends: u64,
 }
 
 impl<'a> HeldLine<'a> {
-    /// The request, or None while it is held back.
-    fn request(&self) -> Option<&'static [u8]> {
-        if self.role != Role::Node {
-            return Some(NEW_SESSION);
-        }
-        if self.shared.paused.load(Ordering::SeqCst) >= 2 {
-            Some(REGISTRATION)
-        } else {
-            None
+    fn next(&self) -> Next {
+        match self.role {
+            Role::Asker if self.given == 0 => Next::Gives(REGISTRATION),
+            Role::Asker if self.is_empty || self.given > MOST => Next::Ends,
+            Role::Asker => {
+                pass_time(&self.rt, &self.shared.time, 100);
+                Next::Gives(STATUS)
+            }
+            _ if self.given > 0 => Next::Ends,
+            Role::Client => Next::Gives(NEW_SESSION),
+            Role::Node if self.shared.paused.load(Ordering::SeqCst) < 2 => Next::Waits,
+            Role::Node => Next::Gives(REGISTRATION),
         }
     }
 }
@@ -39,17 +59,18 @@ impl<'a> Line for HeldLine<'a> {
     ghost view = { λ l. counting 0 0 l.ends };
 
     fn read(&mut self, into: &mut [u8]) -> Reading {
-        if !self.has_given {
-            let Some(request) = self.request() else {
+        let count = match self.next() {
+            Next::Gives(request) => give(request, into),
+            Next::Waits => {
                 thread::sleep(&self.rt, Duration::from_millis(1));
                 return Reading::NotNow;
-            };
-            let count = give(request, into);
-            if count > 0 {
-                self.has_given = true;
-                self.shared.given.fetch_add(1, Ordering::SeqCst);
-                return Reading::Bytes(count);
             }
+            Next::Ends => 0,
+        };
+        if count > 0 {
+            self.given = self.given.saturating_add(1);
+            self.shared.given.fetch_add(1, Ordering::SeqCst);
+            return Reading::Bytes(count);
         }
         self.ends = self.ends.saturating_add(1);
         Reading::End
@@ -58,11 +79,12 @@ impl<'a> Line for HeldLine<'a> {
     fn write(&mut self, from: &[u8]) -> Writing {
         if from.starts_with(b"HTTP/1.1 200") {
             let taken = match self.role {
-                Role::Node => &self.shared.registered,
-                _ => &self.shared.created,
+                Role::Client => &self.shared.created,
+                _ => &self.shared.registered,
             };
             taken.fetch_add(1, Ordering::SeqCst);
         }
+        self.is_empty = from.windows(NO_NODE.len()).any(|part| part == NO_NODE);
         Writing::Bytes(from.len())
     }
 
@@ -108,22 +130,24 @@ impl<'a> Gate for HeldGate<'a> {
     }
 }
 
-/// Hands out the links of two clients and of a node, and is closed then.
+/// Hands out the links of these, and is closed then. The time of its clocks goes on by waits alone.
 #[derive(Drop)]
 pub(crate) struct HeldDoor<'a> {
     rt: HostRuntime,
     shared: &'a Shared,
-    links: u32,
+    roles: &'static [Role],
+    links: usize,
     host: Option<IpAddr>,
     bound: Option<u16>,
     ends: u64,
 }
 
 impl<'a> HeldDoor<'a> {
-    pub(crate) fn new(rt: HostRuntime, shared: &'a Shared) -> HeldDoor<'a> {
+    pub(crate) fn new(rt: HostRuntime, shared: &'a Shared, roles: &'static [Role]) -> HeldDoor<'a> {
         HeldDoor {
             rt,
             shared,
+            roles,
             links: 0,
             host: None,
             bound: None,
@@ -153,21 +177,17 @@ impl<'a> Door for HeldDoor<'a> {
     }
 
     fn accept(&mut self) -> Result<Option<HeldLine<'a>>, Failed> {
-        if self.links == 3 {
+        let Some(role) = self.roles.get(self.links) else {
             self.ends = self.ends.saturating_add(1);
             return Ok(None);
-        }
-        self.links = self.links.saturating_add(1);
-        let role = if self.links < 3 {
-            Role::Client
-        } else {
-            Role::Node
         };
+        self.links = self.links.saturating_add(1);
         Ok(Some(HeldLine {
             rt: self.rt,
             shared: self.shared,
-            role,
-            has_given: false,
+            role: *role,
+            given: 0,
+            is_empty: false,
             ends: 0,
         }))
     }

@@ -19,5 +19,3 @@ mod starting;
 mod tests;
 #[cfg(test)]
 mod texts;
-#[cfg(test)]
-mod ticking;

@@ -1,12 +1,13 @@
 //! A hub, a node and a client over TCP in one process.
-use crate::tests::words;
+use crate::tests::{status_over, words};
 use grid_node::node_main;
+use grid_outside::Door;
 use grid_sockets::TcpDoor;
-use hub_server::hub_main;
+use grid_types::Text;
+use std::alloc::Global;
 use std::io::{Read, Write};
 use std::net::{Ipv4Addr, TcpListener, TcpStream};
 use std::sync::Wait;
-use std::test::Fail;
 use std::thread::Threads;
 use std::time::Duration;
 use std::{io, thread};
@@ -89,6 +90,28 @@ fn one_session_beside(rt: &HostRuntime, port: u16, count: usize) -> Option<bool>
     Some(is_so && silent.len() == count)
 }
 
+/// The status over any door, of which a trial asks no clause.
+fn node_status<R: Threads + Wait + Sync, D: Door>(
+    rt: &R,
+    alloc: Global,
+    words: &[Text],
+    door: &mut D,
+) -> u8 {
+    node_main(rt, alloc, words, door)
+}
+
+/// Two free ports, and the words of a hub at the first and of a node at the second.
+fn words_of_both(runtime: &HostRuntime, more: &str) -> Option<(u16, Vec<Text>, Vec<Text>)> {
+    let alloc = runtime.alloc();
+    let (port, node_port) = free_ports(runtime).ok()?;
+    let hub_port = format!(in alloc; "--port={port}").ok()?;
+    let node_port = format!(in alloc; "--port={node_port}").ok()?;
+    let hub = format!(in alloc; "--hub=127.0.0.1:{port}").ok()?;
+    let hub_words = words(alloc, &[hub_port.as_str(), more])?;
+    let node_words = words(alloc, &[hub.as_str(), node_port.as_str()])?;
+    Some((port, hub_words, node_words))
+}
+
 /// Whether a session goes through a hub with these further words and a node, while so many connections say nothing. The hub takes
 /// their links and those of the node and of the client, the node the three that the session needs.
 fn goes_through<R: Threads + Wait + Sync>(
@@ -96,41 +119,28 @@ fn goes_through<R: Threads + Wait + Sync>(
     runtime: HostRuntime,
     more: &str,
     count: usize,
-) -> Result<bool, Fail> {
+) -> Option<bool> {
     let alloc = runtime.alloc();
-    let (port, node_port) = free_ports(&runtime)?;
-    let hub_port = format!(in alloc; "--port={port}")?;
-    let node_port = format!(in alloc; "--port={node_port}")?;
-    let hub = format!(in alloc; "--hub=127.0.0.1:{port}")?;
-    let hub_words = words(alloc, &[hub_port.as_str(), more])?;
-    let node_words = words(alloc, &[hub.as_str(), node_port.as_str()])?;
+    let (port, hub_words, node_words) = words_of_both(&runtime, more)?;
     let mut hub_door = TcpDoor::new(runtime, Some((count as u64).saturating_add(2)));
     let mut node_door = TcpDoor::new(runtime, Some(3));
     let (hub_status, (node_status, session)) = thread::join(
         rt,
-        || hub_main(rt, alloc, hub_words.as_slice(), &mut hub_door),
+        || status_over(rt, alloc, hub_words.as_slice(), &mut hub_door),
         || {
             thread::join(
                 rt,
-                || node_main(rt, alloc, node_words.as_slice(), &mut node_door),
+                || node_status(rt, alloc, node_words.as_slice(), &mut node_door),
                 || one_session_beside(&runtime, port, count),
             )
         },
     );
-    Ok((hub_status, node_status, session) == (0, 0, Some(true)))
+    Some((hub_status, node_status, session) == (0, 0, Some(true)))
 }
 
+/// Behind it one thread drives all connections, and 200 of them hold it up in nothing.
 #[test]
-fn a_session_goes_through_hub_and_node(rt: HostRuntime) -> Result<(), Fail> {
-    let is_so = goes_through(&rt, rt, "--handlers=64", 0)?;
-    assert!(rt; is_so);
-    Ok(())
-}
-
-/// One thread drives all connections, and 200 of them hold it up in nothing.
-#[test]
-fn a_session_goes_beside_silent_connections(rt: HostRuntime) -> Result<(), Fail> {
-    let is_so = goes_through(&rt, rt, "--handlers=1", 200)?;
-    assert!(rt; is_so);
-    Ok(())
+fn a_session_goes_through_hub_and_node(rt: HostRuntime) {
+    assert!(rt; goes_through(&rt, rt, "--handlers=64", 0) == Some(true));
+    assert!(rt; goes_through(&rt, rt, "--handlers=1", 200) == Some(true));
 }

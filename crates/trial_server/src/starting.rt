@@ -15,7 +15,6 @@ use hub_workers::{Tool, crew};
 use std::alloc::Global;
 use std::sync::Wait;
 use std::sync::atomic::Ordering;
-use std::test::Fail;
 use std::thread::Threads;
 
 /// The capabilities of Chrome.
@@ -115,15 +114,18 @@ fn both_start<R: Threads + Wait + Sync>(
     Some(has_one && has_other)
 }
 
-#[test]
-fn a_crew_starts_sessions_beside_each_other(rt: HostRuntime) -> Result<(), Fail> {
-    let alloc = rt.alloc();
-    let shared = Shared::new();
-    let made = SharedHub::new(&rt, alloc, HubConfig::default(), 0, 5);
-    let (hub, mut first) = made.ok().ok_or("memory")?;
-    let both = both_start(&rt, alloc, &hub, &mut first, rt, &shared);
+/// Over a hub of its own.
+fn starts(rt: HostRuntime, shared: &Shared) -> Option<bool> {
+    let made = SharedHub::new(&rt, rt.alloc(), HubConfig::default(), 0, 5);
+    let (hub, mut first) = made.ok()?;
+    let both = both_start(&rt, rt.alloc(), &hub, &mut first, rt, shared);
     hub.close(&rt);
-    assert_eq!(rt; both, Some(true));
-    assert_eq!(rt; shared.starts.load(Ordering::SeqCst), 2);
-    Ok(())
+    both
+}
+
+#[test]
+fn a_crew_starts_sessions_beside_each_other(rt: HostRuntime) {
+    let shared = Shared::new();
+    assert!(rt; starts(rt, &shared) == Some(true));
+    assert!(rt; shared.starts.load(Ordering::SeqCst) == 2);
 }

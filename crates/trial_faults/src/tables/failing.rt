@@ -1,12 +1,12 @@
 //! Five requests of which one call of the outside fails: a read, a write or an exchange.
-use crate::client::{Client, joined, nodes_of};
-use crate::told::{FAULT, NO_SESSION, NULL, OK, Told, text_of};
+use crate::tables::client::{Client, joined, nodes_of};
+use crate::tables::told::{FAULT, NO_SESSION, NULL, OK, Told, text_of};
 use grid_outside::MemNodes;
 use hub_conn::{ConnFault, End, Served};
 use std::alloc::Global;
 
 /// A node registers.
-pub const REGISTERS: &[u8] =
+pub(crate) const REGISTERS: &[u8] =
     b"POST /se/grid/distributor/node HTTP/1.1\r\nHost: h\r\nContent-Length: 82\r\n\r\n{\"name\":\"n\",\"address\":\"n:1\",\"maxSessions\":1,\"slots\":[{\"count\":1,\"stereotype\":{}}]}";
 
 // Five requests of 120 bytes each: a session is created, used twice, the second time with a chunked body, and ended, and the
@@ -60,12 +60,12 @@ const UNREACHABLE: Told = Told::Hub(
 );
 
 /// What is asked afterwards: the state of the slot, and which requests wait.
-pub const AFTER: &[u8] =
+pub(crate) const AFTER: &[u8] =
     b"GET /status HTTP/1.1\r\nHost: h\r\n\r\nGET /se/grid/newsessionqueue/queue HTTP/1.1\r\nHost: h\r\n\r\n";
 
 /// Which calls of a kind fail, from 0.
 #[derive(Clone, Copy)]
-pub enum Fails {
+pub(crate) enum Fails {
     Read(&'static [u64]),
     Write(&'static [u64]),
     Exchange(&'static [u64]),
@@ -77,20 +77,20 @@ pub enum Fails {
 
 /// What fails, and what comes of it.
 #[derive(Clone, Copy)]
-pub struct FailingRow {
-    pub fails: Fails,
+pub(crate) struct FailingRow {
+    pub(crate) fails: Fails,
     /// What is told, if it is written whole.
-    pub told: &'static [Told],
+    pub(crate) told: &'static [Told],
     /// How many bytes of it are written, the first ones.
-    pub written: usize,
+    pub(crate) written: usize,
     /// How the connection ends.
-    pub ended: Result<Served, ConnFault>,
+    pub(crate) ended: Result<Served, ConnFault>,
     /// The slot's state afterwards.
-    pub slot: Told,
+    pub(crate) slot: Told,
     /// The exchanges.
-    pub asks: &'static str,
+    pub(crate) asks: &'static str,
     /// The entries that a hub of one thread makes, whose own node gives a sign of life before each request.
-    pub entries: &'static str,
+    pub(crate) entries: &'static str,
 }
 
 const ALL: &[Told] = &[CREATED, URL, SET, NULL, FREE];
@@ -139,7 +139,7 @@ const FAILED: &str = "beat queue reserve fail take beat beat beat beat ";
 /// so. A session that was told stays until it is ended. After a failed exchange the connection goes on: a start that did not reach
 /// its only node fails, a relay is told so, and a session that is deleted ends also where its node is not reached. A failed exchange
 /// uses up no reply, so the replies after it come one request later.
-pub const ROWS: [FailingRow; 27] = [
+pub(crate) const FAILING: [FailingRow; 27] = [
     FailingRow {
         fails: Fails::Read(&[0]),
         told: ALL,
@@ -405,12 +405,12 @@ fn takes_of(fails: Fails) -> usize {
 }
 
 /// The five requests.
-pub fn five_requests(alloc: Global) -> Option<Vec<u8>> {
+pub(crate) fn five_requests(alloc: Global) -> Option<Vec<u8>> {
     joined(alloc, &SENDS)
 }
 
 /// The client whose reads or writes fail so.
-pub fn client_of(sends: &[u8], fails: Fails) -> Client<'_> {
+pub(crate) fn client_of(sends: &[u8], fails: Fails) -> Client<'_> {
     let (reads_fail, writes_fail, _exchanges) = calls_of(fails);
     Client {
         sends,
@@ -422,13 +422,13 @@ pub fn client_of(sends: &[u8], fails: Fails) -> Client<'_> {
 }
 
 /// The nodes with which exchanges fail so.
-pub fn nodes_failing(alloc: Global, fails: Fails) -> Option<MemNodes> {
+pub(crate) fn nodes_failing(alloc: Global, fails: Fails) -> Option<MemNodes> {
     let (_reads, _writes, exchanges) = calls_of(fails);
     nodes_of(alloc, &REPLIES, exchanges)
 }
 
 /// At most so many of the bytes, the first ones.
-pub fn front(bytes: &[u8], most: usize) -> &[u8] {
+pub(crate) fn front(bytes: &[u8], most: usize) -> &[u8] {
     if most < bytes.len() {
         &bytes[..most]
     } else {
@@ -437,7 +437,7 @@ pub fn front(bytes: &[u8], most: usize) -> &[u8] {
 }
 
 /// What is to be seen: the responses, and what the hub says afterwards.
-pub fn foretold(alloc: Global, told: &[Told], slot: Told) -> Option<(String, String)> {
+pub(crate) fn foretold(alloc: Global, told: &[Told], slot: Told) -> Option<(String, String)> {
     let responses = text_of(alloc, told)?;
     let state = [slot, NO_REQUESTS];
     let says = text_of(alloc, state.as_slice())?;

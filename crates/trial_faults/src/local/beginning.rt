@@ -1,11 +1,10 @@
 //! What goes before each request: own nodes give a sign of life, the hub sweeps, and idle sessions are ended.
-use crate::plays::{makes_entries, waiting};
-use grid_types::{HubConfig, NoMemory, NodeNo};
-use std::alloc::Global;
-use std::process::Abort;
-use trial_play_tables::{
+use crate::local::plays::{makes_entries, waiting};
+use crate::tables::{
     BEATEN_STAYS, IDLE_ENDS, NONE_MATCHES, Play, SILENT_IS_SUSPECT, SILENT_LAPSES,
 };
+use grid_types::{HubConfig, NodeNo};
+use std::alloc::Global;
 
 // A connection, the hub's own nodes, how many milliseconds a request waits, and the entries behind the registration.
 type Row = (Play, &'static [NodeNo], u64, &'static str);
@@ -32,26 +31,26 @@ const ROWS: [Row; 4] = [
     ),
 ];
 
-fn go_so(rt: &impl Abort, alloc: Global, rows: &[Row]) -> Option<()> {
+fn all_go(alloc: Global, rows: &[Row]) -> bool {
     for (play, own, timeout_ms, entries) in rows {
-        let so = makes_entries(alloc, play, own, waiting(*timeout_ms), Some(entries))?;
-        assert!(rt; so, "{entries}");
+        if makes_entries(alloc, play, own, waiting(*timeout_ms), Some(entries)) != Some(true) {
+            return false;
+        }
     }
-    Some(())
+    true
 }
 
-#[test]
-fn nodes_beat_and_idle_sessions_end_before_a_request(rt: HostRuntime) -> Result<(), NoMemory> {
-    go_so(&rt, rt.alloc(), &ROWS).ok_or(NoMemory)
-}
-
-#[test]
-fn what_no_slot_matches_is_refused(rt: HostRuntime) -> Result<(), NoMemory> {
+/// What no slot matches is refused.
+fn none_matches(alloc: Global) -> Option<bool> {
     let config = HubConfig {
         reject_unsupported: true,
         ..HubConfig::default()
     };
-    let so = makes_entries(rt.alloc(), &NONE_MATCHES, &[1], config, Some("beat beat "));
-    assert!(rt; so.ok_or(NoMemory)?);
-    Ok(())
+    makes_entries(alloc, &NONE_MATCHES, &[1], config, Some("beat beat "))
+}
+
+#[test]
+fn nodes_beat_and_idle_sessions_end_before_a_request(rt: HostRuntime) {
+    assert!(rt; all_go(rt.alloc(), &ROWS));
+    assert!(rt; none_matches(rt.alloc()) == Some(true));
 }

@@ -1,38 +1,26 @@
 //! Connections over a hub of one thread with its nodes, and what its journal tells.
-use grid_outside::{MemClock, MemLink, MemNodes};
+use crate::grid::{Wanted, are_asked};
+use crate::tables::{Client, link_of, plain};
+use grid_outside::{Clock, Link, MemClock, MemLink, MemNodes, NodeLink};
 use grid_types::{Change, Entry, Moment, NodeNo};
 use hub_conn::{ConnFault, Served};
 use hub_core::LocalHub;
 use local_driver::serve_local;
 use std::alloc::Global;
-use trial_play_tables::{Client, asks_of, link_of, plain};
 
-/// What is to be seen of a connection: what is written, how it ends, and what the nodes are asked.
-#[derive(Clone, Copy)]
-pub(crate) struct Wanted<'a> {
-    pub(crate) written: &'a [u8],
-    pub(crate) ended: Result<Served, ConnFault>,
-    pub(crate) asks: &'a str,
-}
-
-/// Serves the connection from moment 0 on. The nodes `own` give a sign of life before each request.
-fn served(
+/// Serves a connection over any ends, of which a trial asks nothing more. The nodes `own` give a sign of life before each request.
+fn served<L: Link, N: NodeLink, C: Clock>(
     alloc: Global,
     hub: &mut LocalHub,
     own: &[NodeNo],
-    nodes: &mut MemNodes,
-    link: &mut MemLink,
+    nodes: &mut N,
+    link: &mut L,
+    clock: &mut C,
 ) -> Result<Served, ConnFault> {
-    let mut clock = MemClock::new(Moment(0));
-    serve_local(alloc, hub, own, link, nodes, &mut clock)
+    serve_local(alloc, hub, own, link, nodes, clock)
 }
 
-fn are_asked(alloc: Global, nodes: &MemNodes, wanted: &str) -> Option<bool> {
-    let asks = asks_of(alloc, nodes)?;
-    Some(asks.as_str() == wanted)
-}
-
-/// Whether the client is served so. None is out of memory, as everywhere here.
+/// Whether the client is served so from moment 0 on. None is out of memory, as everywhere here.
 pub(crate) fn serves(
     alloc: Global,
     hub: &mut LocalHub,
@@ -42,17 +30,18 @@ pub(crate) fn serves(
     wanted: &Wanted<'_>,
 ) -> Option<bool> {
     let mut link = link_of(alloc, client)?;
-    let ended = served(alloc, hub, own, nodes, &mut link);
+    let mut clock = MemClock::new(Moment(0));
+    let ended = served(alloc, hub, own, nodes, &mut link, &mut clock);
     let is_told = ended == wanted.ended && link.taken() == wanted.written;
-    let is_asked = are_asked(alloc, nodes, wanted.asks)?;
-    Some(is_told && is_asked)
+    Some(is_told && are_asked(alloc, nodes, wanted.asks))
 }
 
 /// Makes these requests, for which no node is asked.
 pub(crate) fn asked(alloc: Global, hub: &mut LocalHub, sends: &[u8]) -> Option<MemLink> {
     let mut link = link_of(alloc, &plain(sends))?;
     let mut nodes = MemNodes::new(alloc, Vec::new(alloc));
-    let _ended = served(alloc, hub, &[], &mut nodes, &mut link);
+    let mut clock = MemClock::new(Moment(0));
+    let _ended = served(alloc, hub, &[], &mut nodes, &mut link, &mut clock);
     Some(link)
 }
 

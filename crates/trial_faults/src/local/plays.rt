@@ -1,11 +1,13 @@
 //! Whole connections over a hub of one thread, whatever the pieces in which their bytes come and go.
-use crate::grid::{Wanted, are_behind, asked, serves};
+use crate::grid::Wanted;
+use crate::local::grid::{are_behind, asked, serves};
+use crate::tables::{
+    MaliciousRow, PIECES, Play, client_in, malicious_play, nodes_of, registers, sent, text_of,
+};
 use grid_types::{HubConfig, NodeNo};
 use hub_conn::Served;
 use hub_core::LocalHub;
 use std::alloc::Global;
-use std::process::Abort;
-use trial_play_tables::{PIECES, Play, client_in, nodes_of, registers, sent, text_of};
 
 /// Where a request waits for so many milliseconds.
 pub(crate) fn waiting(timeout_ms: u64) -> HubConfig {
@@ -103,11 +105,23 @@ pub(crate) fn makes_entries(
     goes_in_pieces(alloc, &scene)
 }
 
-/// Plays them where a request waits for a second.
-pub(crate) fn go_so(rt: &impl Abort, alloc: Global, plays: &[Play], own: &[NodeNo]) -> Option<()> {
+/// Whether they go so where a request waits for a second.
+pub(crate) fn all_go(alloc: Global, plays: &[Play], own: &[NodeNo]) -> bool {
     for play in plays {
-        let so = makes_entries(alloc, play, own, waiting(1_000), None)?;
-        assert!(rt; so, "{}", play.asks);
+        if makes_entries(alloc, play, own, waiting(1_000), None) != Some(true) {
+            return false;
+        }
     }
-    Some(())
+    true
+}
+
+/// Whether a hub without nodes refuses them so.
+pub(crate) fn are_refused(alloc: Global, rows: &[MaliciousRow]) -> bool {
+    for row in rows {
+        let play = malicious_play(row);
+        if makes_entries(alloc, &play, &[], waiting(1_000), None) != Some(true) {
+            return false;
+        }
+    }
+    true
 }

@@ -1,11 +1,11 @@
 //! Whole connections as a table has them.
-use crate::{Client, Told};
+use crate::tables::{Client, Told};
 use hub_conn::End;
 use std::alloc::Global;
 
 /// What a client sends.
 #[derive(Clone, Copy)]
-pub enum Sends {
+pub(crate) enum Sends {
     /// A New Session with this body.
     New(&'static str),
     Get(&'static str),
@@ -20,18 +20,18 @@ pub enum Sends {
 
 /// One connection to a hub of its own.
 #[derive(Clone, Copy)]
-pub struct Play {
+pub(crate) struct Play {
     /// Browser, version and slots of each node. They are named `play-1` and so on, at the addresses `loop:1` and so on.
-    pub nodes: &'static [(&'static str, &'static str, u8)],
-    pub sends: &'static [Sends],
+    pub(crate) nodes: &'static [(&'static str, &'static str, u8)],
+    pub(crate) sends: &'static [Sends],
     /// What the nodes reply in this order: a status, 0 for what is no HTTP, and a body. Behind these they are unreachable.
-    pub replies: &'static [(u16, &'static str)],
-    pub told: &'static [Told],
+    pub(crate) replies: &'static [(u16, &'static str)],
+    pub(crate) told: &'static [Told],
     /// How many requests are answered.
-    pub frames: u64,
-    pub end: End,
+    pub(crate) frames: u64,
+    pub(crate) end: End,
     /// What the nodes are asked.
-    pub asks: &'static str,
+    pub(crate) asks: &'static str,
 }
 
 fn push_post(alloc: Global, text: &mut Vec<u8>, path: &str, body: &str) -> Option<()> {
@@ -57,7 +57,7 @@ fn push_many(text: &mut Vec<u8>, bytes: &[u8], times: usize) -> Option<()> {
 }
 
 /// The bytes one after the other.
-pub fn sent(alloc: Global, sends: &[Sends]) -> Option<Vec<u8>> {
+pub(crate) fn sent(alloc: Global, sends: &[Sends]) -> Option<Vec<u8>> {
     let mut text = Vec::new(alloc);
     for one in sends {
         match one {
@@ -73,7 +73,7 @@ pub fn sent(alloc: Global, sends: &[Sends]) -> Option<Vec<u8>> {
 }
 
 /// The registrations of the nodes.
-pub fn registers(alloc: Global, nodes: &[(&str, &str, u8)]) -> Option<Vec<u8>> {
+pub(crate) fn registers(alloc: Global, nodes: &[(&str, &str, u8)]) -> Option<Vec<u8>> {
     let mut text = Vec::new(alloc);
     for (i, (browser, version, slots)) in nodes.iter().enumerate() {
         let number = i + 1;
@@ -91,7 +91,7 @@ fn fewest(sends: usize) -> usize {
 }
 
 /// The client that sends these bytes, of which a read gives and a write takes so many at most.
-pub fn client_in(sends: &[u8], gives: usize, takes: usize) -> Client<'_> {
+pub(crate) fn client_in(sends: &[u8], gives: usize, takes: usize) -> Client<'_> {
     Client {
         sends,
         gives: gives.max(fewest(sends.len())),
@@ -102,4 +102,4 @@ pub fn client_in(sends: &[u8], gives: usize, takes: usize) -> Client<'_> {
 }
 
 /// Bytes that a read gives and a write takes at most: as many as there are, and one by one.
-pub const PIECES: [(usize, usize); 4] = [(65_536, 65_536), (1, 65_536), (65_536, 1), (1, 1)];
+pub(crate) const PIECES: [(usize, usize); 4] = [(65_536, 65_536), (1, 65_536), (65_536, 1), (1, 1)];

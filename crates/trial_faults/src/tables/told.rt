@@ -3,7 +3,7 @@ use std::alloc::Global;
 
 /// A response.
 #[derive(Clone, Copy)]
-pub enum Told {
+pub(crate) enum Told {
     /// Of the hub: the status with its phrase, and the body.
     Hub(&'static str, &'static str),
     /// Of the hub, behind which the connection ends.
@@ -13,31 +13,31 @@ pub enum Told {
 }
 
 /// The status line of a success.
-pub const OK: &str = "200 OK";
+pub(crate) const OK: &str = "200 OK";
 
 /// The status line of a request with a fault.
-pub const BAD: &str = "400 Bad Request";
+pub(crate) const BAD: &str = "400 Bad Request";
 
 /// The status line of what is not there.
-pub const MISSING: &str = "404 Not Found";
+pub(crate) const MISSING: &str = "404 Not Found";
 
 /// The status line of what the hub could not do.
-pub const FAULT: &str = "500 Internal Server Error";
+pub(crate) const FAULT: &str = "500 Internal Server Error";
 
 /// What a client that waits for it is told before its response.
-pub const CONTINUE: Told = Told::Raw("HTTP/1.1 100 Continue\r\n\r\n");
+pub(crate) const CONTINUE: Told = Told::Raw("HTTP/1.1 100 Continue\r\n\r\n");
 
 /// A success without a value.
-pub const NULL: Told = Told::Hub(OK, "{\"value\":null}");
+pub(crate) const NULL: Told = Told::Hub(OK, "{\"value\":null}");
 
 /// No session has the id.
-pub const NO_SESSION: Told = Told::Hub(
+pub(crate) const NO_SESSION: Told = Told::Hub(
     MISSING,
     "{\"value\":{\"error\":\"invalid session id\",\"message\":\"no such session\",\"stacktrace\":\"\"}}",
 );
 
 /// No command has the path.
-pub const NO_COMMAND: Told = Told::Hub(
+pub(crate) const NO_COMMAND: Told = Told::Hub(
     MISSING,
     "{\"value\":{\"error\":\"unknown command\",\"message\":\"no command has this path\",\"stacktrace\":\"\"}}",
 );
@@ -54,7 +54,7 @@ fn push_hub(alloc: Global, text: &mut String, status: &str, ends: &str, body: &s
 }
 
 /// The responses one after the other.
-pub fn text_of(alloc: Global, told: &[Told]) -> Option<String> {
+pub(crate) fn text_of(alloc: Global, told: &[Told]) -> Option<String> {
     let mut text = String::new(alloc);
     for one in told {
         match one {

@@ -1,21 +1,20 @@
 //! A client's connection, nodes that reply by a list, and what is seen of both.
 use grid_outside::{MemLink, MemNodes, MemSink, MemSource, NodeReply, Reply};
 use grid_types::Bytes;
-use hub_conn::{ConnFault, Served};
 use std::alloc::Global;
 
 /// A client: what it sends, how many bytes a read gives and a write takes at most, and which of its reads and writes fail, from 0.
 #[derive(Clone, Copy)]
-pub struct Client<'a> {
-    pub sends: &'a [u8],
-    pub gives: usize,
-    pub takes: usize,
-    pub reads_fail: &'a [u64],
-    pub writes_fail: &'a [u64],
+pub(crate) struct Client<'a> {
+    pub(crate) sends: &'a [u8],
+    pub(crate) gives: usize,
+    pub(crate) takes: usize,
+    pub(crate) reads_fail: &'a [u64],
+    pub(crate) writes_fail: &'a [u64],
 }
 
 /// Gives and takes as much as there is.
-pub fn plain(sends: &[u8]) -> Client<'_> {
+pub(crate) fn plain(sends: &[u8]) -> Client<'_> {
     Client {
         sends,
         gives: 65_536,
@@ -26,7 +25,7 @@ pub fn plain(sends: &[u8]) -> Client<'_> {
 }
 
 /// The texts one after the other.
-pub fn joined(alloc: Global, parts: &[&[u8]]) -> Option<Vec<u8>> {
+pub(crate) fn joined(alloc: Global, parts: &[&[u8]]) -> Option<Vec<u8>> {
     let mut all = Vec::new(alloc);
     for part in parts {
         all.extend_from_slice(part).ok()?;
@@ -35,7 +34,7 @@ pub fn joined(alloc: Global, parts: &[&[u8]]) -> Option<Vec<u8>> {
 }
 
 /// The client's connection. None is out of memory, or that a piece may have no byte.
-pub fn link_of(alloc: Global, client: &Client<'_>) -> Option<MemLink> {
+pub(crate) fn link_of(alloc: Global, client: &Client<'_>) -> Option<MemLink> {
     if client.gives == 0 || client.takes == 0 {
         return None;
     }
@@ -46,14 +45,6 @@ pub fn link_of(alloc: Global, client: &Client<'_>) -> Option<MemLink> {
         MemSource::new(sends, client.gives, reads_fail),
         MemSink::new(alloc, client.takes, writes_fail),
     ))
-}
-
-/// What came of a connection: the bytes that were written, how it ended, and what the nodes were asked.
-#[derive(Debug, PartialEq, Drop)]
-pub struct Seen {
-    pub written: Vec<u8>,
-    pub ended: Result<Served, ConnFault>,
-    pub asks: String,
 }
 
 fn reply_of(alloc: Global, status: u16, body: &[u8]) -> Option<Reply> {
@@ -72,7 +63,7 @@ fn reply_of(alloc: Global, status: u16, body: &[u8]) -> Option<Reply> {
 }
 
 /// Nodes that reply in this order, each with a status, 0 for what is no HTTP, and a body; these exchanges fail, from 0.
-pub fn nodes_of(alloc: Global, replies: &[(u16, &str)], fails: &[u64]) -> Option<MemNodes> {
+pub(crate) fn nodes_of(alloc: Global, replies: &[(u16, &str)], fails: &[u64]) -> Option<MemNodes> {
     let mut nodes = MemNodes::new(alloc, Vec::from_slice(alloc, fails).ok()?);
     for (status, body) in replies {
         nodes.push(reply_of(alloc, *status, body.as_bytes())?).ok()?;
@@ -85,7 +76,7 @@ fn str_of(bytes: &[u8]) -> &str {
 }
 
 /// Method, address and target of each exchange that was made.
-pub fn asks_of(alloc: Global, nodes: &MemNodes) -> Option<String> {
+pub(crate) fn asks_of(alloc: Global, nodes: &MemNodes) -> Option<String> {
     let mut told = String::new(alloc);
     for exchange in nodes.made() {
         let ask = &exchange.ask;

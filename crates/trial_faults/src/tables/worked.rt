@@ -1,6 +1,6 @@
 //! Worked connections.
-use crate::plays::{Play, Sends};
-use crate::{BAD, CONTINUE, FAULT, NO_COMMAND, NO_SESSION, NULL, OK, Told};
+use crate::tables::plays::{Play, Sends};
+use crate::tables::{BAD, CONTINUE, FAULT, NO_COMMAND, NO_SESSION, NULL, OK, Told};
 use Sends::{Delete, Get, New, Post, Raw};
 use http_frames::FrameFault;
 use hub_conn::End;
@@ -122,6 +122,11 @@ const NOT_STARTED: Told = Told::Hub(
     "{\"value\":{\"error\":\"session not created\",\"message\":\"start failed: node is unreachable\",\"stacktrace\":\"\"}}",
 );
 
+const NO_HTTP_STARTED: Told = Told::Hub(
+    FAULT,
+    "{\"value\":{\"error\":\"session not created\",\"message\":\"start failed: node's reply is not HTTP\",\"stacktrace\":\"\"}}",
+);
+
 const X200: Told = Told::Hub(
     FAULT,
     "{\"value\":{\"error\":\"session not created\",\"message\":\"start failed: xxxxxxxxxxxxxxxxxxxxxxxxxxxxxxxxxxxxxxxxxxxxxxxxxxxxxxxxxxxxxxxxxxxxxxxxxxxxxxxxxxxxxxxxxxxxxxxxxxxxxxxxxxxxxxxxxxxxxxxxxxxxxxxxxxxxxxxxxxxxxxxxxxxxxxxxxxxxxxxxxxxxxxxxxxxxxxxxxxxxxxxxxxxxxxxxxxxxxxxx\",\"stacktrace\":\"\"}}",
@@ -194,7 +199,7 @@ const HTTP_A: Told = Told::Raw(
 const ASKS_1: &str = "POST loop:1/session; ";
 
 /// Connections that go the same way over each hub.
-pub const WORKED: [Play; 27] = [
+pub(crate) const WORKED: [Play; 27] = [
     // A session; nothing; two where one fits; in whatever form it is asked for.
     Play {
         nodes: &[CHROME_NODE],
@@ -526,7 +531,7 @@ pub const WORKED: [Play; 27] = [
 ];
 
 /// What nodes reply that misbehave.
-pub const MISBEHAVING: [Play; 10] = [
+pub(crate) const MISBEHAVING: [Play; 13] = [
     // A relay that is answered with no HTTP, and one that does not reach its node.
     Play {
         nodes: &[CHROME_NODE],
@@ -565,6 +570,37 @@ pub const MISBEHAVING: [Play; 10] = [
         sends: &[New(CHROME)],
         replies: &[(200, "null")],
         told: &[NAMELESS],
+        frames: 1,
+        end: End::Closed,
+        asks: ASKS_1,
+    },
+    // Another status than that of a success, a name that stands twice, and no HTTP.
+    Play {
+        nodes: &[CHROME_NODE],
+        sends: &[New(CHROME)],
+        replies: &[(201, NAMES_A)],
+        told: &[NAMELESS],
+        frames: 1,
+        end: End::Closed,
+        asks: ASKS_1,
+    },
+    Play {
+        nodes: &[CHROME_NODE],
+        sends: &[New(CHROME)],
+        replies: &[(
+            200,
+            "{\"value\":{\"sessionId\":\"a\",\"sessionId\":\"a\",\"message\":\"m\"}}",
+        )],
+        told: &[NAMELESS],
+        frames: 1,
+        end: End::Closed,
+        asks: ASKS_1,
+    },
+    Play {
+        nodes: &[CHROME_NODE],
+        sends: &[New(CHROME)],
+        replies: &[(0, "SSH-2.0")],
+        told: &[NO_HTTP_STARTED],
         frames: 1,
         end: End::Closed,
         asks: ASKS_1,
@@ -633,7 +669,7 @@ pub const MISBEHAVING: [Play; 10] = [
 ];
 
 /// A node that is drained serves on, and takes no more. It stays listed where nobody sweeps.
-pub const DRAINED_STAYS: Play = Play {
+pub(crate) const DRAINED_STAYS: Play = Play {
     nodes: &[("chrome", "126.0", 2)],
     sends: &[
         New(CHROME),
@@ -655,7 +691,7 @@ pub const DRAINED_STAYS: Play = Play {
 };
 
 /// The same where the hub is swept before each request: it is removed once its session has ended.
-pub const DRAINED_GOES: Play = Play {
+pub(crate) const DRAINED_GOES: Play = Play {
     nodes: &[("chrome", "126.0", 2)],
     sends: &[
         New(CHROME),
@@ -677,7 +713,7 @@ pub const DRAINED_GOES: Play = Play {
 };
 
 /// A second request waits for five minutes. A hub whose idle sessions are ended before each request has ended the first session then.
-pub const IDLE_ENDS: Play = Play {
+pub(crate) const IDLE_ENDS: Play = Play {
     nodes: &[CHROME_NODE],
     sends: &[New(CHROME), New(CHROME), Delete(AT_1), Get("/status")],
     replies: &[(200, SESSION_1), (200, DONE)],
@@ -688,7 +724,7 @@ pub const IDLE_ENDS: Play = Play {
 };
 
 /// A request waits for five minutes, in which the node gives no sign of life.
-pub const SILENT_LAPSES: Play = Play {
+pub(crate) const SILENT_LAPSES: Play = Play {
     nodes: &[CHROME_NODE],
     sends: &[New(FIREFOX), Get("/status")],
     replies: &[],
@@ -699,7 +735,7 @@ pub const SILENT_LAPSES: Play = Play {
 };
 
 /// The same where the node gives a sign of life before each request.
-pub const BEATEN_STAYS: Play = Play {
+pub(crate) const BEATEN_STAYS: Play = Play {
     nodes: &[CHROME_NODE],
     sends: &[New(FIREFOX), Get("/status")],
     replies: &[],
@@ -710,7 +746,7 @@ pub const BEATEN_STAYS: Play = Play {
 };
 
 /// A request waits for two minutes and a half, in which the node gives no sign of life; then it gives one.
-pub const SILENT_IS_SUSPECT: Play = Play {
+pub(crate) const SILENT_IS_SUSPECT: Play = Play {
     nodes: &[CHROME_NODE],
     sends: &[
         New(FIREFOX),
@@ -726,7 +762,7 @@ pub const SILENT_IS_SUSPECT: Play = Play {
 };
 
 /// A request that no node serves, on a hub that refuses such.
-pub const NONE_MATCHES: Play = Play {
+pub(crate) const NONE_MATCHES: Play = Play {
     nodes: &[CHROME_NODE],
     sends: &[New(FIREFOX), Get("/status")],
     replies: &[],

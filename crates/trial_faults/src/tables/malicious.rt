@@ -1,6 +1,6 @@
 //! Malicious and broken bytes: which refusal each gets (RFC 9112 §3 to §7, RFC 8259, WebDriver §6.6).
-use crate::plays::{Play, Sends};
-use crate::told::{BAD, CONTINUE, NO_COMMAND, Told};
+use crate::tables::plays::{Play, Sends};
+use crate::tables::told::{BAD, CONTINUE, NO_COMMAND, Told};
 use Sends::{Get, Many, New, Post, Raw};
 use http_frames::FrameFault;
 use http_frames::FrameFault::{
@@ -71,7 +71,7 @@ const TWICE: Told = Told::Hub(
 const CHUNKED: Sends = Raw(b"POST /x HTTP/1.1\r\nTransfer-Encoding: chunked\r\n\r\n");
 
 /// What is sent, what is told, how many requests are answered, and how the connection ends: Err is that its first request is refused.
-pub type MaliciousRow = (
+pub(crate) type MaliciousRow = (
     &'static [Sends],
     &'static [Told],
     u64,
@@ -79,7 +79,7 @@ pub type MaliciousRow = (
 );
 
 /// Bytes that are malicious or broken.
-pub const MALICIOUS: [MaliciousRow; 32] = [
+const MALICIOUS: [MaliciousRow; 32] = [
     // 65,536 bytes without an end: in the target and in a header; and one byte fewer.
     (
         &[Raw(b"GET /"), Many(b"a", 65_531)],
@@ -290,8 +290,13 @@ pub const MALICIOUS: [MaliciousRow; 32] = [
     ),
 ];
 
+/// The rows.
+pub(crate) fn malicious_rows() -> &'static [MaliciousRow] {
+    &MALICIOUS
+}
+
 /// The row as a connection to a hub without nodes.
-pub fn malicious_play(row: &MaliciousRow) -> Play {
+pub(crate) fn malicious_play(row: &MaliciousRow) -> Play {
     let (sends, told, frames, end) = *row;
     Play {
         nodes: &[],
