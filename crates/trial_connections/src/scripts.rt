@@ -254,25 +254,6 @@ fn outcome_says(alloc: Global, outcome: &Outcome, message: &str) -> bool {
     )
 }
 
-const FAILURES: &[(FailWhy, &str)] = &[
-    (FailWhy::Unreachable, "start failed: node is unreachable"),
-    (FailWhy::NotHttp, "start failed: node's reply is not HTTP"),
-    (
-        FailWhy::BadReply,
-        "start failed: node's reply names no session",
-    ),
-    (
-        FailWhy::Mismatch,
-        "start failed: node's capabilities do not match",
-    ),
-    (FailWhy::NodeGone, "start failed: node is gone"),
-    (
-        FailWhy::Duplicate,
-        "start failed: node's session id is in use",
-    ),
-    (FailWhy::NoMemory, "start failed: hub had no memory"),
-];
-
 fn failures_say(alloc: Global, rows: &[(FailWhy, &str)]) -> bool {
     for (why, message) in rows {
         if !outcome_says(alloc, &Outcome::StartFailed(*why), *message) {
@@ -282,14 +263,38 @@ fn failures_say(alloc: Global, rows: &[(FailWhy, &str)]) -> bool {
     true
 }
 
+fn failures(alloc: Global) -> bool {
+    let rows = [
+        (
+            FailWhy::NodeRefused(Words::cut("refused by script")),
+            "start failed: refused by script",
+        ),
+        (FailWhy::Unreachable, "start failed: node is unreachable"),
+        (FailWhy::NotHttp, "start failed: node's reply is not HTTP"),
+        (
+            FailWhy::BadReply,
+            "start failed: node's reply names no session",
+        ),
+        (
+            FailWhy::Mismatch,
+            "start failed: node's capabilities do not match",
+        ),
+        (FailWhy::NodeGone, "start failed: node is gone"),
+        (
+            FailWhy::Duplicate,
+            "start failed: node's session id is in use",
+        ),
+        (FailWhy::NoMemory, "start failed: hub had no memory"),
+    ];
+    failures_say(alloc, &rows)
+}
+
 fn outcomes_say(alloc: Global) -> bool {
     let late = Outcome::TimedOut {
         deadline: Moment(300_000),
     };
-    let refused = Outcome::StartFailed(FailWhy::NodeRefused(Words::cut("refused by script")));
     outcome_says(alloc, &late, "request 2 timed out")
         && outcome_says(alloc, &Outcome::Cleared, "request 2 was cleared")
-        && outcome_says(alloc, &refused, "start failed: refused by script")
 }
 
 fn nodes_say(alloc: Global) -> bool {
@@ -330,7 +335,7 @@ fn are_whole(alloc: Global) -> bool {
 fn what_became_of_a_call_has_its_message(rt: HostRuntime) {
     let alloc = rt.alloc();
     assert!(rt; calls_say(alloc));
-    assert!(rt; failures_say(alloc, FAILURES));
+    assert!(rt; failures(alloc));
     assert!(rt; outcomes_say(alloc));
     assert!(rt; nodes_say(alloc));
     assert!(rt; are_whole(alloc));

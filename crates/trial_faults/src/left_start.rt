@@ -228,7 +228,8 @@ fn goes_over<R: Wait>(rt: &R, alloc: Global, hub: &SharedHub, first: &mut Pass) 
     let starts = ends_of(alloc, &WORKER)?;
     let (seat, worker) = play(rt, alloc, hub, first, client, starts, &mut clock)?;
     let is_ended = is_ended(alloc, &seat, &worker);
-    Some(is_ended && is_left(rt, alloc, hub, first, &[FREE, NO_REQUESTS]))
+    let is_left = is_left(rt, alloc, hub, first, &[FREE, NO_REQUESTS]);
+    Some(is_ended && is_left)
 }
 
 fn goes<R: Wait>(rt: &R, alloc: Global) -> Option<bool> {

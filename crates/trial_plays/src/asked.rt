@@ -32,7 +32,8 @@ fn asks_of(alloc: Global, nodes: &MemNodes) -> Option<String> {
             str_of(exchange.address.as_bytes()),
             str_of(ask.target.as_bytes()),
             str_of(ask.body.as_bytes())
-        ).ok()?;
+        )
+        .ok()?;
         told.push_str(one.as_str()).ok()?;
     }
     Some(told)

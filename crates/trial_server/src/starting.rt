@@ -115,17 +115,17 @@ fn both_start<R: Threads + Wait + Sync>(
 }
 
 /// Over a hub of its own.
-fn starts(rt: HostRuntime, shared: &Shared) -> Option<bool> {
-    let made = SharedHub::new(&rt, rt.alloc(), HubConfig::default(), 0, 5);
-    let (hub, mut first) = made.ok()?;
-    let both = both_start(&rt, rt.alloc(), &hub, &mut first, rt, shared);
-    hub.close(&rt);
+fn starts<R: Threads + Wait + Sync>(rt: &R, runtime: HostRuntime, shared: &Shared) -> Option<bool> {
+    let alloc = runtime.alloc();
+    let (hub, mut first) = SharedHub::new(rt, alloc, HubConfig::default(), 0, 5).ok()?;
+    let both = both_start(rt, alloc, &hub, &mut first, runtime, shared);
+    hub.close(rt);
     both
 }
 
 #[test]
 fn a_crew_starts_sessions_beside_each_other(rt: HostRuntime) {
     let shared = Shared::new();
-    assert!(rt; starts(rt, &shared) == Some(true));
+    assert!(rt; starts(&rt, rt, &shared) == Some(true));
     assert!(rt; shared.starts.load(Ordering::SeqCst) == 2);
 }

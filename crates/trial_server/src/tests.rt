@@ -35,11 +35,18 @@ pub(crate) fn status_over<R: Threads + Wait + Sync, D: Door>(
 }
 
 /// Whether a hub of these words serves the links of these until its door is closed.
-fn serves(rt: HostRuntime, shared: &Shared, said: &[&str], roles: &'static [Role]) -> bool {
-    match words(rt.alloc(), said) {
+fn serves<R: Threads + Wait + Sync>(
+    rt: &R,
+    runtime: HostRuntime,
+    shared: &Shared,
+    said: &[&str],
+    roles: &'static [Role],
+) -> bool {
+    let alloc = runtime.alloc();
+    match words(alloc, said) {
         Some(words) => {
-            let mut door = HeldDoor::new(rt, shared, roles);
-            status_over(&rt, rt.alloc(), words.as_slice(), &mut door) == 0
+            let mut door = HeldDoor::new(runtime, shared, roles);
+            status_over(rt, alloc, words.as_slice(), &mut door) == 0
         }
         None => false,
     }
@@ -56,7 +63,15 @@ fn have_started(shared: &Shared) -> bool {
 fn a_hub_starts_sessions_beside_each_other(rt: HostRuntime) {
     let shared = Shared::new();
     let said = &["--workers", "2", "--handlers", "3"];
-    assert!(rt; serves(rt, &shared, said, &[Role::Client, Role::Client, Role::Node]));
+    assert!(rt;
+        serves(
+            &rt,
+            rt,
+            &shared,
+            said,
+            &[Role::Client, Role::Client, Role::Node]
+        )
+    );
     assert!(rt; have_started(&shared));
 }
 
@@ -65,7 +80,7 @@ fn a_hub_starts_sessions_beside_each_other(rt: HostRuntime) {
 fn a_silent_node_is_let_go(rt: HostRuntime) {
     let shared = Shared::new();
     let said = &["--workers", "0", "--handlers", "1"];
-    assert!(rt; serves(rt, &shared, said, &[Role::Asker]));
+    assert!(rt; serves(&rt, rt, &shared, said, &[Role::Asker]));
     let taken = shared.registered.load(Ordering::SeqCst);
     assert!(rt; taken > 1 && taken < 10_000);
 }
