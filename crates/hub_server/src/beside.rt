@@ -10,6 +10,7 @@ use crate::accepting::Accepts;
 use crate::handling::{serve_links, take_back};
 use crate::hands::{Hand, go_on_all, keep_hand};
 use crate::looping::Post;
+use crate::passes::next_pass;
 use grid_outside::Gate;
 use hub_cell::{Pass, SharedHub};
 use std::alloc::Global;
@@ -33,7 +34,30 @@ pub(crate) struct House<G: Drop, C: Drop> {
     pub(crate) start_ms: u64,
 }
 
-/// A hand for each clock, as far as there are passes: workers where it is told how long an exchange of a start may take, else tickers.
+/// One more hand with this clock, where there is a pass for it: a worker where it is told how long an exchange of a start may take, else
+/// a ticker.
+fn hire_one<G: Gate>(
+    hub: &SharedHub,
+    gate: &mut G,
+    passes: &mut Vec<Pass>,
+    clock: G::C,
+    start_ms: Option<u64>,
+    hands: &mut Vec<Hand<G::N, G::C>>,
+)
+    requires passes { All (IsOf hub.now) passes.old.items }
+    requires hands { All (IsHand hub.now G.N.NodeLine.state G.N.NodeLine.gives G.N.NodeLine.asks
+        G.C.Clock.gives G.C.Clock.view) hands.old.items }
+    ensures passes { All (IsOf hub.now) passes.new.items }
+    ensures hands { All (IsHand hub.now G.N.NodeLine.state G.N.NodeLine.gives G.N.NodeLine.asks
+        G.C.Clock.gives G.C.Clock.view) hands.new.items }
+{
+    if let Some(pass) = next_pass(hub, passes) {
+        let nodes = gate.nodes(hands.len());
+        keep_hand(hub, hands, Hand::hired(start_ms, pass, nodes, clock));
+    }
+}
+
+/// A hand for each clock, as far as there are passes.
 fn hire<G: Gate>(
     hub: &SharedHub,
     gate: &mut G,
@@ -50,10 +74,7 @@ fn hire<G: Gate>(
         G.C.Clock.gives G.C.Clock.view) hands.new.items }
 {
     for clock in clocks {
-        if let Some(pass) = passes.pop() {
-            let nodes = gate.nodes(hands.len());
-            keep_hand(hub, hands, Hand::hired(start_ms, pass, nodes, clock));
-        }
+        hire_one(hub, gate, passes, clock, start_ms, hands);
     }
 }
 

@@ -35,7 +35,7 @@ fn stepped_lent<R: Wait, L: Line + Drop, N: NodeLine + Drop, C: Clock>(
     line: L,
     nodes: N,
     clock: &mut C,
-) -> Option<Result<Served, ConnFault>>
+) -> Seat<L, N, C>
     requires own { IsOf hub.now pass }
     requires lender { IsOf hub.now lender }
     requires idle { N.asks nodes None }
@@ -44,12 +44,11 @@ fn stepped_lent<R: Wait, L: Line + Drop, N: NodeLine + Drop, C: Clock>(
     let mut seat = Seat::new(alloc, pass, line, nodes, clock, WAITS_MS);
     let mut buffer = [0; BUFFER_BYTES];
     for _ in 0..STEPS {
-        let act = seat.step_lent(rt, alloc, hub, &mut reader, &mut buffer, clock);
-        if let Act::Over(result) = act {
-            return Some(result);
+        if let Act::Over(_) = seat.step_lent(rt, alloc, hub, &mut reader, &mut buffer, clock) {
+            return seat;
         }
     }
-    None
+    seat
 }
 
 /// The ends of a connection of which no call fails.
@@ -58,6 +57,14 @@ fn unfailing(alloc: Global) -> Option<(MemLine, MemNodes)> {
     let line = line_of(alloc, &client_of(sends.as_slice(), NONE_FAILS))?;
     let nodes = nodes_failing(alloc, NONE_FAILS)?;
     Some((line, nodes))
+}
+
+/// How many requests were answered where the hub was spent with the last of these.
+fn answered_until_spent(ended: Option<Result<Served, ConnFault>>) -> u64 {
+    match ended {
+        Some(Ok(served)) if served.end == End::HubSpent => served.frames,
+        _ => 0,
+    }
 }
 
 /// How many of the five requests were answered where the hub was spent with the last of these; 0 where it was spent before.
@@ -72,11 +79,8 @@ fn answered_by<R: Wait>(rt: &R, alloc: Global, hub: &SharedHub, first: Pass) -> 
     let (line, nodes) = unfailing(alloc)?;
     let nodes = MemNodeLine::new(nodes, Vec::new(alloc));
     let mut clock = MemClock::new(Moment(0));
-    let result = stepped_lent(rt, alloc, hub, lender, pass, line, nodes, &mut clock)?;
-    match result {
-        Ok(served) if served.end == End::HubSpent => Some(served.frames),
-        _ => Some(0),
-    }
+    let seat = stepped_lent(rt, alloc, hub, lender, pass, line, nodes, &mut clock);
+    Some(answered_until_spent(seat.result()))
 }
 
 /// The same of a hub that has so many turns.

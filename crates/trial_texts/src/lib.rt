@@ -1,4 +1,5 @@
-//! Tables of HTTP frames, and of JSON texts, bodies, capabilities, routes and lists.
+//! Tables of HTTP frames, and of JSON texts, bodies, capabilities, routes and lists; of the texts of responses, and of the call that each
+//! route makes first.
 #![tactic(auto)]
 
 #[cfg(test)]
@@ -11,6 +12,8 @@ mod merging;
 mod replies;
 #[cfg(test)]
 mod routes;
+#[cfg(test)]
+mod scripts;
 #[cfg(test)]
 mod spans;
 #[cfg(test)]

@@ -1,6 +1,6 @@
 use Rattle.std.proofs.Common.{◌∙◌, [], ◌∷◌, subst, sym}
 use Rattle.grid_teams_shared.specs.Teams.{PassesAre, passes_of}
-use Rattle.trial_connections.proofs.teams.both.Goals as goal
+use Rattle.trial_faults.proofs.teams.both.Goals as goal
 
 pub returns : goal.returns
 returns c =

@@ -1,4 +1,0 @@
-use Rattle.trial_connections.proofs.teams.started.Goals as goal
-
-pub returns : goal.returns
-returns g c = c.both.ensures

@@ -1,0 +1,4 @@
+use Rattle.trial_faults.proofs.teams.started.Goals as goal
+
+pub returns : goal.returns
+returns g c = c.both.ensures
