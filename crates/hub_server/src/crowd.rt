@@ -5,7 +5,7 @@ ghost use Rattle.hub_cell.specs.Passes.{IsOf};
 ghost use Rattle.hub_server.specs.Crowds.{IsCrowd};
 
 use crate::diary::Diary;
-use crate::passes::bare;
+use crate::passes::{bare, next_pass};
 use crossbeam_channel::Receiver;
 use grid_outside::{Clock, Line, NodeLine};
 use grid_types::NoMemory;
@@ -110,7 +110,7 @@ impl<L: Line + Drop, N: NodeLine + Drop, C: Clock + Drop> Crowd<L, N, C> {
         ensures crowd { IsCrowd desk.now.hub.now L.view N.state N.gives N.asks C.gives C.view self.new }
         ensures pass { IfSome result (IsOf desk.now.hub.now) }
     {
-        match self.passes.pop() {
+        match next_pass(desk.hub, &mut self.passes) {
             Some(pass) => Some(pass),
             None => bare(desk.rt, desk.hub, &mut self.root),
         }
@@ -136,8 +136,8 @@ impl<L: Line + Drop, N: NodeLine + Drop, C: Clock + Drop> Crowd<L, N, C> {
             &mut self.clock,
             self.timeout_ms,
         );
-        // Nothing stood there.
-        let _ = self.places.sit(place, seat);
+        // Nothing stood there. A large value is let go by a call: the check of one that ends by itself writes out all its fields.
+        drop(self.places.sit(place, seat));
         self.diary.goes_on(place);
         self.open = self.open.saturating_add(1);
     }
@@ -162,7 +162,7 @@ impl<L: Line + Drop, N: NodeLine + Drop, C: Clock + Drop> Crowd<L, N, C> {
         if let Some(seat) = self.places.take(place) {
             self.open = self.open.saturating_sub(1);
             // There is room for the pass of each place.
-            let _ = self.passes.push(seat.into_pass());
+            drop(self.passes.push(seat.into_pass()));
             self.leave_free(place);
         }
     }

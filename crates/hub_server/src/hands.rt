@@ -103,7 +103,7 @@ pub(crate) fn keep_hand<N: NodeLine + Drop, C: Clock + Drop>(
     requires own { IsHand hub.now N.state N.gives N.asks C.gives C.view hand }
     ensures { All (IsHand hub.now N.state N.gives N.asks C.gives C.view) hands.new.items }
 {
-    let _ = hands.push(hand);
+    drop(hands.push(hand));
 }
 
 /// Each of the first `count` of them does what it can do now. True: some may go on at once.

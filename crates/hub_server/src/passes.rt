@@ -64,7 +64,7 @@ fn keep_pass(hub: &SharedHub, passes: &mut Vec<Pass>, pass: Pass)
     requires own { IsOf hub.now pass }
     ensures { All (IsOf hub.now) passes.new.items }
 {
-    let _ = passes.push(pass);
+    drop(passes.push(pass));
 }
 
 /// As many passes without a reader of their own as can be had, up to so many.

@@ -1,6 +1,7 @@
 pub mod AttachLemmas
 pub mod Accepted
 pub mod Building
+pub mod FoundLemmas
 pub mod HostLemmas
 pub mod JournalLemmas
 pub mod Limits

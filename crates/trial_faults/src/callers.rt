@@ -68,10 +68,15 @@ fn line_to(alloc: Global, caller: &Caller) -> Option<MemLine> {
 
 /// The ends of its connection.
 pub(crate) fn ends_of(alloc: Global, caller: &Caller) -> Option<Reaching<MemNodes>> {
-    let line = line_to(alloc, caller)?;
-    let nodes = nodes_of(alloc, caller.replies, &[])?;
     let waits = up_to(alloc, caller.silent)?;
-    Some(Reaching { line, nodes, waits })
+    let line = line_to(alloc, caller)?;
+    match nodes_of(alloc, caller.replies, &[]) {
+        Some(nodes) => Some(Reaching { line, nodes, waits }),
+        None => {
+            drop(line);
+            None
+        }
+    }
 }
 
 fn all_ends(alloc: Global, callers: &[Caller]) -> Option<Vec<Reaching<MemNodes>>> {
@@ -141,11 +146,12 @@ fn goes_over<R: Wait>(
     requires { IsOf hub.now first.old }
     ensures { IsOf hub.now first.new }
 {
-    asked(rt, alloc, hub, first, story.registers)?;
+    drop(asked(rt, alloc, hub, first, story.registers)?);
     let mut clock = MemClock::new(Moment(0));
     let all = all_ends(alloc, story.callers)?;
     let seats = play(rt, alloc, hub, first, all, story.scenes, &mut clock)?;
     let is_seen = are_so(alloc, seats.as_slice(), story.callers);
+    drop(seats);
     Some(is_seen && is_left(rt, alloc, hub, first, story.after))
 }
 

@@ -58,6 +58,8 @@ pub(crate) fn serves<R: Wait>(
     let mut clock = MemClock::new(Moment(0));
     let ended = served(rt, alloc, hub, pass, nodes, &mut link, &mut clock);
     let is_told = ended == wanted.ended && link.taken() == wanted.written;
+    // A large value is let go by a call: the check of one that ends by itself writes out all its fields.
+    drop(link);
     Some(is_told && are_asked(alloc, nodes, wanted.asks))
 }
 
@@ -76,6 +78,7 @@ pub(crate) fn asked<R: Wait>(
     let mut nodes = MemNodes::new(alloc, Vec::new(alloc));
     let mut clock = MemClock::new(Moment(0));
     let _ended = served(rt, alloc, hub, pass, &mut nodes, &mut link, &mut clock);
+    drop(nodes);
     Some(link)
 }
 
@@ -91,7 +94,11 @@ pub(crate) fn says<R: Wait>(
     ensures { IsOf hub.now pass.new }
 {
     match asked(rt, alloc, hub, pass, AFTER) {
-        Some(link) => link.taken() == state.as_bytes(),
+        Some(link) => {
+            let is_said = link.taken() == state.as_bytes();
+            drop(link);
+            is_said
+        }
         None => false,
     }
 }

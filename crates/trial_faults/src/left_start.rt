@@ -5,7 +5,7 @@ ghost use Rattle.hub_serving.specs.Tables.{IsSeated};
 ghost use Rattle.hub_workers.specs.WorkSeats.{IsAtWork};
 ghost use Rattle.hub_workers.specs.SharedClock.{Asked};
 
-use crate::callers::{Caller, ends_of, is_left, is_so};
+use crate::callers::{Caller, Reaching, ends_of, is_left, is_so};
 use crate::grid::{are_asked, asked};
 use crate::leaving::{CREATES_A, ENDS, NEW_SESSION, NO_REQUESTS};
 use crate::seats::{BUFFER_BYTES, MemSeat, WAITS_MS};
@@ -165,6 +165,20 @@ fn two<R: Wait>(rt: &R, hub: &SharedHub, first: &mut Pass) -> Option<(Pass, Pass
     Some((one, other))
 }
 
+/// Whether the node registers.
+fn registers<R: Wait>(rt: &R, alloc: Global, hub: &SharedHub, first: &mut Pass) -> bool
+    requires { IsOf hub.now first.old }
+    ensures { IsOf hub.now first.new }
+{
+    match asked(rt, alloc, hub, first, REGISTERS) {
+        Some(link) => {
+            drop(link);
+            true
+        }
+        None => false,
+    }
+}
+
 /// The client's request waits while no node is there. Then one registers, and a worker starts the session.
 fn play<R: Wait, C: Clock, E: Ends + Drop>(
     rt: &R,
@@ -180,9 +194,14 @@ fn play<R: Wait, C: Clock, E: Ends + Drop>(
 {
     let (pass, its) = two(rt, hub, first)?;
     let mut seat = waiting(rt, alloc, hub, pass, client, clock);
-    asked(rt, alloc, hub, first, REGISTERS)?;
+    let has_registered = registers(rt, alloc, hub, first);
     let worker = worked(rt, alloc, hub, &mut seat, its, starts, clock);
-    Some((seat, worker))
+    if has_registered {
+        return Some((seat, worker));
+    }
+    drop(seat);
+    drop(worker);
+    None
 }
 
 /// It leaves while the worker waits for the node.
@@ -219,15 +238,28 @@ fn is_ended(alloc: Global, seat: &MemSeat, worker: &MemWorker) -> bool {
     is_so(alloc, seat, &CLIENT) && are_asked(alloc, worker.nodes().nodes(), WORKER.asks)
 }
 
+/// The ends of the connection and of the worker.
+fn both_ends(alloc: Global) -> Option<(Reaching<MemNodes>, Reaching<MemNodes>)> {
+    let client = ends_of(alloc, &CLIENT)?;
+    match ends_of(alloc, &WORKER) {
+        Some(starts) => Some((client, starts)),
+        None => {
+            drop(client);
+            None
+        }
+    }
+}
+
 fn goes_over<R: Wait>(rt: &R, alloc: Global, hub: &SharedHub, first: &mut Pass) -> Option<bool>
     requires { IsOf hub.now first.old }
     ensures { IsOf hub.now first.new }
 {
     let mut clock = MemClock::new(Moment(0));
-    let client = ends_of(alloc, &CLIENT)?;
-    let starts = ends_of(alloc, &WORKER)?;
+    let (client, starts) = both_ends(alloc)?;
     let (seat, worker) = play(rt, alloc, hub, first, client, starts, &mut clock)?;
     let is_ended = is_ended(alloc, &seat, &worker);
+    drop(seat);
+    drop(worker);
     let is_left = is_left(rt, alloc, hub, first, &[FREE, NO_REQUESTS]);
     Some(is_ended && is_left)
 }

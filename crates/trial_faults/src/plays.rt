@@ -33,10 +33,12 @@ fn goes_over<R: Wait>(
     requires { IsOf hub.now pass.old }
     ensures { IsOf hub.now pass.new }
 {
-    asked(rt, alloc, hub, pass, scene.registers)?;
+    drop(asked(rt, alloc, hub, pass, scene.registers)?);
     let client = client_in(scene.sends, gives, takes);
     let mut nodes = nodes_of(alloc, scene.play.replies, &[])?;
-    serves(rt, alloc, hub, pass, &mut nodes, &client, &scene.wanted)
+    let so = serves(rt, alloc, hub, pass, &mut nodes, &client, &scene.wanted);
+    drop(nodes);
+    so
 }
 
 /// A request waits for a second.

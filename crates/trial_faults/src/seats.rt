@@ -78,10 +78,15 @@ struct RowEnds {
 
 fn row_ends(alloc: Global, fails: Fails) -> Option<RowEnds> {
     let sends = five_requests(alloc)?;
-    let line = line_of(alloc, &client_of(sends.as_slice(), fails))?;
-    let nodes = nodes_failing(alloc, fails)?;
     let waits = every_other(alloc)?;
-    Some(RowEnds { line, nodes, waits })
+    let line = line_of(alloc, &client_of(sends.as_slice(), fails))?;
+    match nodes_failing(alloc, fails) {
+        Some(nodes) => Some(RowEnds { line, nodes, waits }),
+        None => {
+            drop(line);
+            None
+        }
+    }
 }
 
 /// What is to be seen: what is told, and what the hub says afterwards.
@@ -109,7 +114,9 @@ fn goes_by<R: Wait>(
     let seat = stepped(rt, alloc, hub, pass, line, nodes, &mut clock);
     let is_seen = is_so(alloc, &seat, row, wanted.told);
     let mut pass = seat.into_pass();
-    is_seen && says(rt, alloc, hub, &mut pass, wanted.state)
+    let is_said = says(rt, alloc, hub, &mut pass, wanted.state);
+    drop(pass);
+    is_seen && is_said
 }
 
 /// Whether the five requests of the row are served so, and the hub says so afterwards.
@@ -123,7 +130,7 @@ fn goes_over<R: Wait>(
     requires { IsOf hub.now pass }
 {
     let mut pass = pass;
-    asked(rt, alloc, hub, &mut pass, REGISTERS)?;
+    drop(asked(rt, alloc, hub, &mut pass, REGISTERS)?);
     let (told, state) = foretold(alloc, row.told, row.slot)?;
     let ends = row_ends(alloc, row.fails)?;
     let wanted = Wanted {

@@ -35,7 +35,7 @@ fn stepped_lent<R: Wait, L: Line + Drop, N: NodeLine + Drop, C: Clock>(
     line: L,
     nodes: N,
     clock: &mut C,
-) -> Seat<L, N, C>
+) -> Option<Result<Served, ConnFault>>
     requires own { IsOf hub.now pass }
     requires lender { IsOf hub.now lender }
     requires idle { N.asks nodes None }
@@ -45,10 +45,13 @@ fn stepped_lent<R: Wait, L: Line + Drop, N: NodeLine + Drop, C: Clock>(
     let mut buffer = [0; BUFFER_BYTES];
     for _ in 0..STEPS {
         if let Act::Over(_) = seat.step_lent(rt, alloc, hub, &mut reader, &mut buffer, clock) {
-            return seat;
+            break;
         }
     }
-    seat
+    let ended = seat.result();
+    drop(seat);
+    drop(reader);
+    ended
 }
 
 /// The ends of a connection of which no call fails.
@@ -72,15 +75,15 @@ fn answered_by<R: Wait>(rt: &R, alloc: Global, hub: &SharedHub, first: Pass) -> 
     requires { IsOf hub.now first }
 {
     let mut lender = first;
-    asked(rt, alloc, hub, &mut lender, REGISTERS)?;
+    drop(asked(rt, alloc, hub, &mut lender, REGISTERS)?);
     let Ok(pass) = hub.split_bare(rt, &mut lender) else {
         return Some(0);
     };
     let (line, nodes) = unfailing(alloc)?;
     let nodes = MemNodeLine::new(nodes, Vec::new(alloc));
     let mut clock = MemClock::new(Moment(0));
-    let seat = stepped_lent(rt, alloc, hub, lender, pass, line, nodes, &mut clock);
-    Some(answered_until_spent(seat.result()))
+    let ended = stepped_lent(rt, alloc, hub, lender, pass, line, nodes, &mut clock);
+    Some(answered_until_spent(ended))
 }
 
 /// The same of a hub that has so many turns.

@@ -19,20 +19,25 @@ fn serves_five(
     let sends = five_requests(alloc)?;
     let client = client_of(sends.as_slice(), row.fails);
     let mut nodes = nodes_failing(alloc, row.fails)?;
-    let is_seen = serves(alloc, hub, &[1], &mut nodes, &client, wanted)?;
-    Some(is_seen && are_behind(hub.journal(), first, row.entries))
+    let is_seen = serves(alloc, hub, &[1], &mut nodes, &client, wanted);
+    drop(nodes);
+    Some(is_seen? && are_behind(hub.journal(), first, row.entries))
 }
 
 /// Whether the hub says this afterwards.
 fn says(alloc: Global, hub: &mut LocalHub, state: &str) -> bool {
     match asked(alloc, hub, AFTER) {
-        Some(link) => link.taken() == state.as_bytes(),
+        Some(link) => {
+            let is_said = link.taken() == state.as_bytes();
+            drop(link);
+            is_said
+        }
         None => false,
     }
 }
 
 fn goes_over(alloc: Global, hub: &mut LocalHub, row: &FailingRow) -> Option<bool> {
-    asked(alloc, hub, REGISTERS)?;
+    drop(asked(alloc, hub, REGISTERS)?);
     let (told, state) = foretold(alloc, row.told, row.slot)?;
     let wanted = Wanted {
         written: front(told.as_bytes(), row.written),
@@ -46,7 +51,9 @@ fn goes_over(alloc: Global, hub: &mut LocalHub, row: &FailingRow) -> Option<bool
 /// Over a hub of its own.
 fn goes(alloc: Global, row: &FailingRow) -> Option<bool> {
     let mut hub = LocalHub::new(alloc, HubConfig::default()).ok()?;
-    goes_over(alloc, &mut hub, row)
+    let so = goes_over(alloc, &mut hub, row);
+    drop(hub);
+    so
 }
 
 /// Whether each row goes so over a hub of its own.

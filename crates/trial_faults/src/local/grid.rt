@@ -33,6 +33,7 @@ pub(crate) fn serves(
     let mut clock = MemClock::new(Moment(0));
     let ended = served(alloc, hub, own, nodes, &mut link, &mut clock);
     let is_told = ended == wanted.ended && link.taken() == wanted.written;
+    drop(link);
     Some(is_told && are_asked(alloc, nodes, wanted.asks))
 }
 
@@ -42,6 +43,7 @@ pub(crate) fn asked(alloc: Global, hub: &mut LocalHub, sends: &[u8]) -> Option<M
     let mut nodes = MemNodes::new(alloc, Vec::new(alloc));
     let mut clock = MemClock::new(Moment(0));
     let _ended = served(alloc, hub, &[], &mut nodes, &mut link, &mut clock);
+    drop(nodes);
     Some(link)
 }
 

@@ -45,12 +45,13 @@ fn goes_over(
     gives: usize,
     takes: usize,
 ) -> Option<bool> {
-    asked(alloc, hub, scene.registers)?;
+    drop(asked(alloc, hub, scene.registers)?);
     let first = hub.journal().len();
     let client = client_in(scene.sends, gives, takes);
     let mut nodes = nodes_of(alloc, scene.play.replies, &[])?;
-    let is_seen = serves(alloc, hub, scene.own, &mut nodes, &client, &scene.wanted)?;
-    Some(is_seen && makes(hub, first, scene.entries))
+    let is_seen = serves(alloc, hub, scene.own, &mut nodes, &client, &scene.wanted);
+    drop(nodes);
+    Some(is_seen? && makes(hub, first, scene.entries))
 }
 
 /// Over a hub of its own.
@@ -59,7 +60,9 @@ fn goes(alloc: Global, scene: &Scene<'_>, gives: usize, takes: usize) -> Option<
         return None;
     }
     let mut hub = LocalHub::new(alloc, scene.config).ok()?;
-    goes_over(alloc, &mut hub, scene, gives, takes)
+    let so = goes_over(alloc, &mut hub, scene, gives, takes);
+    drop(hub);
+    so
 }
 
 /// In each of the pieces.

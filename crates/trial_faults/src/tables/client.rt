@@ -62,13 +62,22 @@ fn reply_of(alloc: Global, status: u16, body: &[u8]) -> Option<Reply> {
     }))
 }
 
-/// Nodes that reply in this order, each with a status, 0 for what is no HTTP, and a body; these exchanges fail, from 0.
-pub(crate) fn nodes_of(alloc: Global, replies: &[(u16, &str)], fails: &[u64]) -> Option<MemNodes> {
-    let mut nodes = MemNodes::new(alloc, Vec::from_slice(alloc, fails).ok()?);
+fn push_all(alloc: Global, nodes: &mut MemNodes, replies: &[(u16, &str)]) -> Option<()> {
     for (status, body) in replies {
         nodes.push(reply_of(alloc, *status, body.as_bytes())?).ok()?;
     }
-    Some(nodes)
+    Some(())
+}
+
+/// Nodes that reply in this order, each with a status, 0 for what is no HTTP, and a body; these exchanges fail, from 0.
+pub(crate) fn nodes_of(alloc: Global, replies: &[(u16, &str)], fails: &[u64]) -> Option<MemNodes> {
+    let mut nodes = MemNodes::new(alloc, Vec::from_slice(alloc, fails).ok()?);
+    if push_all(alloc, &mut nodes, replies).is_some() {
+        Some(nodes)
+    } else {
+        drop(nodes);
+        None
+    }
 }
 
 fn str_of(bytes: &[u8]) -> &str {

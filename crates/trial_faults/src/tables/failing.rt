@@ -139,7 +139,7 @@ const FAILED: &str = "beat queue reserve fail take beat beat beat beat ";
 /// so. A session that was told stays until it is ended. After a failed exchange the connection goes on: a start that did not reach
 /// its only node fails, a relay is told so, and a session that is deleted ends also where its node is not reached. A failed exchange
 /// uses up no reply, so the replies after it come one request later.
-pub(crate) const FAILING: [FailingRow; 27] = [
+pub(crate) static FAILING: [FailingRow; 27] = [
     FailingRow {
         fails: Fails::Read(&[0]),
         told: ALL,

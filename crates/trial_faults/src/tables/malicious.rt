@@ -79,7 +79,7 @@ pub(crate) type MaliciousRow = (
 );
 
 /// Bytes that are malicious or broken.
-const MALICIOUS: [MaliciousRow; 32] = [
+static MALICIOUS: [MaliciousRow; 32] = [
     // 65,536 bytes without an end: in the target and in a header; and one byte fewer.
     (
         &[Raw(b"GET /"), Many(b"a", 65_531)],
