@@ -22,15 +22,25 @@ use trial_desk::Fault;
 /// How many requests wait.
 const WAITING: u32 = 10_000;
 
-fn browser(alloc: Global, name: &str) -> Result<Caps, Fault> {
-    let mut caps = Caps::new(alloc);
-    let member = Cap {
+fn browser_name(alloc: Global, name: &str) -> Result<Cap, Fault> {
+    Ok(Cap {
         name: Text::of(alloc, "browserName")?,
         value: CapValue::Text(Text::of(alloc, name)?),
-    };
-    match caps.push(member) {
-        Ok(()) => Ok(caps),
-        Err(_) => Err(Fault::Memory),
+    })
+}
+
+fn browser(alloc: Global, name: &str) -> Result<Caps, Fault> {
+    let member = browser_name(alloc, name)?;
+    let mut caps = Caps::new(alloc);
+    let pushed = caps.push(member);
+    let so = pushed.is_ok();
+    // Let go by a call: the check of a value that ends by itself writes out all its fields.
+    drop(pushed);
+    if so {
+        Ok(caps)
+    } else {
+        drop(caps);
+        Err(Fault::Memory)
     }
 }
 
@@ -49,16 +59,20 @@ fn node(alloc: Global, name: &str) -> Result<Registration, Fault>
     ensures sized { IfOk result (λ r. is_well_sized r ≡ true) }
     ensures one { IfOk result (λ r. length r.groups ≤ 1) }
 {
-    let name = Text::of(alloc, name)?;
     let address = NodeAddress::from_bytes(b"127.0.0.1:1").ok_or(Fault::NotTaken)?;
-    let mut groups = Groups::new(alloc);
+    let name = Text::of(alloc, name)?;
     let group = SlotGroup {
         stereotype: browser(alloc, "chrome")?,
         count: 1,
     };
+    let mut groups = Groups::new(alloc);
     match groups.push(group) {
         Ok(()) => {}
-        Err(_) => return Err(Fault::Memory),
+        Err(back) => {
+            drop(back);
+            drop(groups);
+            return Err(Fault::Memory);
+        }
     }
     Ok(Registration::new(name, address, 1, groups))
 }
@@ -111,7 +125,10 @@ fn queued(answer: Enqueued) -> Result<(), Fault> {
     match answer {
         Enqueued::Queued(_) => Ok(()),
         Enqueued::Memory => Err(Fault::Memory),
-        _ => Err(Fault::NoToken),
+        other => {
+            drop(other);
+            Err(Fault::NoToken)
+        }
     }
 }
 
@@ -163,7 +180,9 @@ fn dispatches_nothing<L: Ledger>(core: &mut HubCore, steps: &mut Steps<L>) -> bo
 }
 
 fn is_nothing(answer: Dispatched) -> bool {
-    matches!(answer, Dispatched::Nothing)
+    let so = matches!(answer, Dispatched::Nothing);
+    drop(answer);
+    so
 }
 
 /// Four nodes of one group each and so many requests that none of them serves: whether nothing is dispatched. Four
@@ -215,7 +234,9 @@ fn many_equal_requests_wait_in_vain(rt: HostRuntime) -> Result<(), Fault> {
     let config = HubConfig::default();
     assert!(rt; config.is_valid());
     let mut core = HubCore::new(rt.alloc(), config)?;
-    let plays = plays::<Brand>(rt.alloc(), &mut core, Blank::new(1))?;
+    let plays = plays::<Brand>(rt.alloc(), &mut core, Blank::new(1));
+    drop(core);
+    let plays = plays?;
     assert!(rt; plays);
     Ok(())
 }

@@ -21,6 +21,8 @@ use trial_desk::Fault;
 fn registration(alloc: Global) -> Result<Registration, Fault>
     ensures { IfOk result (λ r. is_well_sized r ≡ true) }
 {
+    let address = NodeAddress::from_bytes(b"127.0.0.1:1").ok_or(Fault::NotTaken)?;
+    let name = Text::of(alloc, "n")?;
     let mut groups = Groups::new(alloc);
     let group = SlotGroup {
         stereotype: Caps::new(alloc),
@@ -28,20 +30,31 @@ fn registration(alloc: Global) -> Result<Registration, Fault>
     };
     match groups.push(group) {
         Ok(()) => {}
-        Err(_) => return Err(Fault::Memory),
+        Err(back) => {
+            drop(back);
+            drop(groups);
+            return Err(Fault::Memory);
+        }
     }
-    let address = NodeAddress::from_bytes(b"127.0.0.1:1").ok_or(Fault::NotTaken)?;
-    Ok(Registration::new(Text::of(alloc, "n")?, address, 1, groups))
+    Ok(Registration::new(name, address, 1, groups))
 }
 
-/// A core with that node.
-fn with_a_node(rt: &impl Abort, alloc: Global) -> Result<HubCore, Fault> {
+/// A core without nodes.
+fn new_core(rt: &impl Abort, alloc: Global) -> Result<HubCore, Fault> {
     let config = HubConfig::default();
     assert!(rt; config.is_valid());
-    let mut core = HubCore::new(alloc, config)?;
-    let registered = core.register(1, registration(alloc)?, Moment(5));
-    assert!(rt; matches!(registered, Registering::Registered(1)));
-    Ok(core)
+    Ok(HubCore::new(alloc, config)?)
+}
+
+/// Lists that node.
+fn with_a_node(rt: &impl Abort, alloc: Global, core: &mut HubCore) -> Result<(), Fault> {
+    let node = registration(alloc)?;
+    let registered = core.register(1, node, Moment(5));
+    let so = matches!(registered, Registering::Registered(1));
+    // Let go by a call: the check of a value that ends by itself writes out all its fields.
+    drop(registered);
+    assert!(rt; so);
+    Ok(())
 }
 
 fn queued<L: Ledger>(
@@ -55,7 +68,10 @@ fn queued<L: Ledger>(
     };
     match core.enqueue(1, choices, at, steps) {
         Enqueued::Queued(ticket) => Ok(ticket),
-        _ => Err(Fault::NoToken),
+        other => {
+            drop(other);
+            Err(Fault::NoToken)
+        }
     }
 }
 
@@ -67,7 +83,10 @@ fn yours<L: Ledger>(
 ) -> Result<(Ticket, Reservation), Fault> {
     match core.poll(1, ticket, at, steps) {
         Polled::Yours(ticket, reservation) => Ok((ticket, reservation)),
-        _ => Err(Fault::NoToken),
+        other => {
+            drop(other);
+            Err(Fault::NoToken)
+        }
     }
 }
 
@@ -78,37 +97,46 @@ fn assigned<L: Ledger>(
 ) -> Result<Reservation, Fault> {
     match core.dispatch(1, at, steps) {
         Dispatched::Assigned(reservation) => Ok(reservation),
-        _ => Err(Fault::NoToken),
+        other => {
+            drop(other);
+            Err(Fault::NoToken)
+        }
     }
 }
 
-/// The session is bound to the slot, and the request is told of it.
+/// The session is bound to the slot.
 fn bound<L: Ledger>(
     rt: &impl Abort,
     core: &mut HubCore,
     alloc: Global,
-    ticket: Ticket,
+    session: SessionId,
     reservation: Reservation,
     steps: &mut Steps<L>,
-) -> Result<(), Fault> {
-    let session = SessionId::from_bytes(b"a").ok_or(Fault::NotTaken)?;
+) {
     let caps = Caps::new(alloc);
     let bound = core.bind(1, reservation, session, caps, Moment(30), steps);
-    assert!(rt; matches!(bound, Binding::Bound(1)));
+    let so = matches!(bound, Binding::Bound(1));
+    drop(bound);
+    assert!(rt; so);
+}
+
+/// The request is told of it.
+fn told<L: Ledger>(rt: &impl Abort, core: &mut HubCore, ticket: Ticket, steps: &mut Steps<L>) {
     let outcome = core.poll(1, ticket, Moment(40), steps);
-    assert!(rt;
-        matches!(
-            outcome,
-            Polled::Settled(Outcome::Created { binding: 1, .. })
-        )
+    let so = matches!(
+        outcome,
+        Polled::Settled(Outcome::Created { binding: 1, .. })
     );
-    Ok(())
+    drop(outcome);
+    assert!(rt; so);
 }
 
 fn late<L: Ledger>(rt: &impl Abort, core: &mut HubCore, ticket: Ticket, steps: &mut Steps<L>) {
     let at = Moment(10 + HubConfig::default().timeout_ms);
     let late = core.poll(1, ticket, at, steps);
-    assert!(rt; matches!(late, Polled::Settled(Outcome::TimedOut { .. })));
+    let so = matches!(late, Polled::Settled(Outcome::TimedOut { .. }));
+    drop(late);
+    assert!(rt; so);
 }
 
 // Borrows the core, so that no early return drops one.
@@ -116,13 +144,18 @@ fn first_is_bound<L: Ledger>(
     rt: &impl Abort,
     alloc: Global,
     core: &mut HubCore,
+    session: SessionId,
     ticket: Ticket,
     steps: &mut Steps<L>,
 ) -> Result<(), Fault> {
     let (ticket, reservation) = yours(core, ticket, Moment(20), steps)?;
     let other = core.dispatch(2, Moment(21), steps);
-    assert!(rt; matches!(other, Dispatched::Nothing));
-    bound(rt, core, alloc, ticket, reservation, steps)
+    let so = matches!(other, Dispatched::Nothing);
+    drop(other);
+    assert!(rt; so);
+    bound(rt, core, alloc, session, reservation, steps);
+    told(rt, core, ticket, steps);
+    Ok(())
 }
 
 fn creates<L: Ledger, A: Abort>(
@@ -135,10 +168,12 @@ fn creates<L: Ledger, A: Abort>(
     requires parts { blank.parts ≡ L.parts }
     requires some { 0 < L.parts }
 {
+    let session = SessionId::from_bytes(b"a").ok_or(Fault::NotTaken)?;
+    with_a_node(rt, alloc, core)?;
     let mut steps = Steps::<L>::new(blank);
     let ticket = queued(core, alloc, Moment(10), &mut steps)?;
     let other = queued(core, alloc, Moment(10), &mut steps)?;
-    first_is_bound(rt, alloc, core, ticket, &mut steps)?;
+    first_is_bound(rt, alloc, core, session, ticket, &mut steps)?;
     late(rt, core, other, &mut steps);
     Ok(())
 }
@@ -146,8 +181,10 @@ fn creates<L: Ledger, A: Abort>(
 /// Two requests for the one slot: the first gets it and its session is bound, the second waits until its deadline.
 #[test]
 fn a_session_is_created(rt: HostRuntime) -> Result<(), Fault> {
-    let mut core = with_a_node(&rt, rt.alloc())?;
-    creates::<Brand, HostRuntime>(&rt, rt.alloc(), &mut core, Blank::new(1))
+    let mut core = new_core(&rt, rt.alloc())?;
+    let so = creates::<Brand, HostRuntime>(&rt, rt.alloc(), &mut core, Blank::new(1));
+    drop(core);
+    so
 }
 
 fn fails<L: Ledger, A: Abort>(
@@ -160,24 +197,27 @@ fn fails<L: Ledger, A: Abort>(
     requires parts { blank.parts ≡ L.parts }
     requires some { 0 < L.parts }
 {
+    with_a_node(rt, alloc, core)?;
     let mut steps = Steps::<L>::new(blank);
     let ticket = queued(core, alloc, Moment(10), &mut steps)?;
     let reservation = assigned(core, Moment(11), &mut steps)?;
     let failed = core.fail(1, reservation, FailWhy::Unreachable, Moment(12), &mut steps);
     assert!(rt; failed == Failing::Refused);
     let outcome = core.poll(1, ticket, Moment(13), &mut steps);
-    assert!(rt;
-        matches!(
-            outcome,
-            Polled::Settled(Outcome::StartFailed(FailWhy::Unreachable))
-        )
+    let so = matches!(
+        outcome,
+        Polled::Settled(Outcome::StartFailed(FailWhy::Unreachable))
     );
+    drop(outcome);
+    assert!(rt; so);
     Ok(())
 }
 
 /// A start that fails on the only node is the last of its request.
 #[test]
 fn a_start_fails(rt: HostRuntime) -> Result<(), Fault> {
-    let mut core = with_a_node(&rt, rt.alloc())?;
-    fails::<Brand, HostRuntime>(&rt, rt.alloc(), &mut core, Blank::new(1))
+    let mut core = new_core(&rt, rt.alloc())?;
+    let so = fails::<Brand, HostRuntime>(&rt, rt.alloc(), &mut core, Blank::new(1));
+    drop(core);
+    so
 }
