@@ -21,9 +21,8 @@ fn str_of(bytes: &[u8]) -> &str {
     std::str::from_utf8(bytes).unwrap_or("")
 }
 
-/// Method, address, target and body of each exchange that was asked for. None is out of memory, as everywhere here.
-fn asks_of(alloc: Global, nodes: &MemNodes) -> Option<String> {
-    let mut told = String::new(alloc);
+/// Tells method, address, target and body of each exchange that was asked for. None is out of memory, as everywhere here.
+fn put_asks(alloc: Global, told: &mut String, nodes: &MemNodes) -> Option<()> {
     for exchange in nodes.made() {
         let ask = &exchange.ask;
         let one = format!(in alloc;
@@ -34,21 +33,49 @@ fn asks_of(alloc: Global, nodes: &MemNodes) -> Option<String> {
             str_of(ask.body.as_bytes())
         )
         .ok()?;
-        told.push_str(one.as_str()).ok()?;
+        let put = told.push_str(one.as_str()).ok();
+        drop(one);
+        put?;
     }
-    Some(told)
+    Some(())
+}
+
+fn are_told(alloc: Global, nodes: &MemNodes, wanted: &str) -> Option<bool> {
+    let mut told = String::new(alloc);
+    let put = put_asks(alloc, &mut told, nodes);
+    let is_so = told.as_str() == wanted;
+    drop(told);
+    put?;
+    Some(is_so)
+}
+
+// Let go by a call: the check of a value that ends by itself writes out all its fields.
+fn serve(alloc: Global, hub: &mut LocalHub, input: &[u8], nodes: &mut MemNodes) -> Option<()> {
+    let source = MemSource::new(Bytes::of(alloc, input).ok()?, 1_000, Vec::new(alloc));
+    let mut link = MemLink::new(source, MemSink::new(alloc, 1_000, Vec::new(alloc)));
+    let mut clock = MemClock::new(Moment(0));
+    let ended = serve_local(alloc, hub, &[], &mut link, nodes, &mut clock);
+    drop(ended);
+    drop(link);
+    Some(())
+}
+
+fn served(alloc: Global, input: &[u8], nodes: &mut MemNodes) -> Option<()> {
+    let mut hub = LocalHub::new(alloc, HubConfig::default()).ok()?;
+    let served = serve(alloc, &mut hub, input, nodes);
+    drop(hub);
+    served
 }
 
 /// Whether the nodes are asked this where these bytes come on one connection.
 fn asks(alloc: Global, input: &[u8], wanted: &str) -> Option<bool> {
-    let mut hub = LocalHub::new(alloc, HubConfig::default()).ok()?;
-    let source = MemSource::new(Bytes::of(alloc, input).ok()?, 1_000, Vec::new(alloc));
-    let mut link = MemLink::new(source, MemSink::new(alloc, 1_000, Vec::new(alloc)));
     let mut nodes = MemNodes::new(alloc, Vec::new(alloc));
-    let mut clock = MemClock::new(Moment(0));
-    let _ended = serve_local(alloc, &mut hub, &[], &mut link, &mut nodes, &mut clock);
-    let asked = asks_of(alloc, &nodes)?;
-    Some(asked.as_str() == wanted)
+    let is_so = match served(alloc, input, &mut nodes) {
+        Some(()) => are_told(alloc, &nodes, wanted),
+        None => None,
+    };
+    drop(nodes);
+    is_so
 }
 
 /// A node registers, and a client asks for these capabilities.

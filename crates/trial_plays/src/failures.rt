@@ -18,24 +18,34 @@ const ROWS: &[Row] = &[
 
 fn fails(alloc: Global, input: &[u8], expected: &[u8], row: &Row) -> Option<bool> {
     let (piece, reads, writes, status, count) = *row;
-    let mut output = MemSink::new(alloc, 10, writes.to_vec(alloc).ok()?);
     if piece == 0 {
         return None;
     }
+    let mut output = MemSink::new(alloc, 10, writes.to_vec(alloc).ok()?);
     let words: &[&str] = &["play", "chrome", "1"];
     let found = played(alloc, words, input, piece, reads, &mut output);
-    Some(found == Some(status) && Some(output.taken()) == expected.get(..count))
+    let is_so = found == Some(status) && Some(output.taken()) == expected.get(..count);
+    drop(output);
+    Some(is_so)
+}
+
+fn each_fails(alloc: Global, input: &[u8], expected: &[u8], rows: &[Row]) -> bool {
+    for row in rows {
+        if fails(alloc, input, expected, row) != Some(true) {
+            return false;
+        }
+    }
+    true
 }
 
 fn all_fail(alloc: Global, rows: &[Row]) -> Option<bool> {
     let input = input_of(alloc, &[Asked::New(CHROME)])?;
     let expected = output_of(alloc, &[Answered::Success(CREATED)])?;
-    for row in rows {
-        if fails(alloc, input.as_slice(), expected.as_slice(), row) != Some(true) {
-            return Some(false);
-        }
-    }
-    Some(expected.len() == 262)
+    let is_so = each_fails(alloc, input.as_slice(), expected.as_slice(), rows);
+    let count = expected.len();
+    drop(input);
+    drop(expected);
+    Some(is_so && count == 262)
 }
 
 #[test]

@@ -43,13 +43,17 @@ fn send(alloc: Global, bytes: &mut Vec<u8>, path: &str, body: &str) -> Option<()
     let head = format!(in alloc;
         "POST {path} HTTP/1.1\r\nHost: h\r\nContent-Length: {size}\r\n\r\n"
     ).ok()?;
-    put(bytes, head.as_str(), body)
+    let put = put(bytes, head.as_str(), body);
+    drop(head);
+    put
 }
 
 /// A request without a body.
 fn bare(alloc: Global, bytes: &mut Vec<u8>, method: &str, path: &str) -> Option<()> {
     let head = format!(in alloc; "{method} {path} HTTP/1.1\r\nHost: h\r\n\r\n").ok()?;
-    put(bytes, head.as_str(), "")
+    let put = put(bytes, head.as_str(), "");
+    drop(head);
+    put
 }
 
 /// Puts the request last.
@@ -76,7 +80,9 @@ fn respond(
     let head = format!(in alloc;
         "HTTP/1.1 {status}\r\nContent-Type: application/json; charset=utf-8\r\nCache-Control: no-cache\r\nContent-Length: {size}\r\n{close}\r\n"
     ).ok()?;
-    put(bytes, head.as_str(), body)
+    let put = put(bytes, head.as_str(), body);
+    drop(head);
+    put
 }
 
 /// Puts the response of an error last.
@@ -91,7 +97,9 @@ fn fail(
     let body = format!(in alloc;
         "{{\"value\":{{\"error\":\"{code}\",\"message\":\"{message}\",\"stacktrace\":\"\"}}}}"
     ).ok()?;
-    respond(alloc, bytes, status, close, body.as_str())
+    let put = respond(alloc, bytes, status, close, body.as_str());
+    drop(body);
+    put
 }
 
 /// The line that ends a connection.

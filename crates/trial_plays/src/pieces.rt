@@ -95,7 +95,10 @@ fn is_answered_in_halves(
     let mut source = two_of(alloc, input, cut)?;
     let mut output = MemSink::new(alloc, 1_000, Vec::new(alloc));
     let status = status_of(alloc, words, &mut source, &mut output);
-    Some(status == 0 && output.taken() == expected)
+    let is_so = status == 0 && output.taken() == expected;
+    drop(source);
+    drop(output);
+    Some(is_so)
 }
 
 fn are_answered_in_halves(alloc: Global, words: &[Text], input: &[u8], expected: &[u8]) -> bool {
@@ -107,17 +110,30 @@ fn are_answered_in_halves(alloc: Global, words: &[Text], input: &[u8], expected:
     true
 }
 
+fn are_halves(alloc: Global, input: &[u8], expected: &[u8]) -> Option<bool> {
+    let words = texts(alloc, ONE)?;
+    let is_so = are_answered_in_halves(alloc, words.as_slice(), input, expected);
+    drop(words);
+    Some(is_so)
+}
+
 /// A New Session takes 112 bytes.
+fn all_do(alloc: Global, input: &[u8], expected: &[u8]) -> Option<bool> {
+    let first = input.get(..112)?;
+    Some(
+        are_all_answered(alloc, first, expected)
+            && are_answered_to(alloc, input, expected)
+            && are_halves(alloc, first, expected)?,
+    )
+}
+
 fn any_pieces_do(alloc: Global) -> Option<bool> {
     let input = input_of(alloc, &[Asked::New(CHROME), Asked::New(CHROME)])?;
-    let first = input.get(..112)?;
     let expected = output_of(alloc, &[Answered::Success(CREATED)])?;
-    let words = texts(alloc, ONE)?;
-    Some(
-        are_all_answered(alloc, first, expected.as_slice())
-            && are_answered_to(alloc, input.as_slice(), expected.as_slice())
-            && are_answered_in_halves(alloc, words.as_slice(), first, expected.as_slice()),
-    )
+    let is_so = all_do(alloc, input.as_slice(), expected.as_slice());
+    drop(input);
+    drop(expected);
+    is_so
 }
 
 #[test]

@@ -31,13 +31,24 @@ pub const FIREFOX: &str = "{\"capabilities\":{\"alwaysMatch\":{\"browserName\":\
 /// A success without a value.
 pub const NOTHING: &str = "{\"value\":null}";
 
-/// The words as texts.
-pub fn texts(alloc: Global, words: &[&str]) -> Option<Vec<Text>> {
-    let mut texts = Vec::new(alloc);
+fn put_texts(alloc: Global, texts: &mut Vec<Text>, words: &[&str]) -> Option<()> {
     for word in words {
         texts.push(Text::of(alloc, word).ok()?).ok()?;
     }
-    Some(texts)
+    Some(())
+}
+
+// Let go by a call: the check of a value that ends by itself writes out all its fields.
+/// The words as texts.
+pub fn texts(alloc: Global, words: &[&str]) -> Option<Vec<Text>> {
+    let mut texts = Vec::new(alloc);
+    match put_texts(alloc, &mut texts, words) {
+        Some(()) => Some(texts),
+        None => {
+            drop(texts);
+            None
+        }
+    }
 }
 
 /// The bytes that are asked.
@@ -68,6 +79,18 @@ pub fn status_of<S: Source, K: Sink>(
     run(alloc, words, source, output)
 }
 
+fn played_over(
+    alloc: Global,
+    words: &[&str],
+    source: &mut MemSource,
+    output: &mut MemSink,
+) -> Option<u8> {
+    let words = texts(alloc, words)?;
+    let status = status_of(alloc, words.as_slice(), source, output);
+    drop(words);
+    Some(status)
+}
+
 /// The status for these words over this input, of which so many bytes come at once. None is out of memory, as everywhere here.
 pub fn played(
     alloc: Global,
@@ -79,10 +102,11 @@ pub fn played(
 ) -> Option<u8>
     requires { 0 < piece }
 {
-    let words = texts(alloc, words)?;
     let bytes = Bytes::of(alloc, input).ok()?;
     let mut source = MemSource::new(bytes, piece, failing_reads.to_vec(alloc).ok()?);
-    Some(status_of(alloc, words.as_slice(), &mut source, output))
+    let status = played_over(alloc, words, &mut source, output);
+    drop(source);
+    status
 }
 
 /// Whether these words come to that status over an input that comes in pieces of so many bytes, and write this.
@@ -97,16 +121,27 @@ pub fn comes_to(
     requires { 0 < piece }
 {
     let mut output = MemSink::new(alloc, piece, Vec::new(alloc));
-    played(alloc, words, input, piece, &[], &mut output) == Some(status)
-        && output.taken() == written
+    let found = played(alloc, words, input, piece, &[], &mut output);
+    let is_so = found == Some(status) && output.taken() == written;
+    drop(output);
+    is_so
 }
 
 /// Whether the row's connection is answered so, with status 0.
 fn holds(alloc: Global, row: &Row) -> Option<bool> {
     let input = input_of(alloc, row.asked)?;
     let expected = output_of(alloc, row.answered)?;
-    let (input, expected) = (input.as_slice(), expected.as_slice());
-    Some(comes_to(alloc, row.words, input, 1_000, 0, expected))
+    let is_so = comes_to(
+        alloc,
+        row.words,
+        input.as_slice(),
+        1_000,
+        0,
+        expected.as_slice(),
+    );
+    drop(input);
+    drop(expected);
+    Some(is_so)
 }
 
 fn all_hold(alloc: Global, rows: &[Row]) -> bool {

@@ -123,7 +123,9 @@ fn put(bytes: &mut Vec<u8>, block: &[u8]) -> Option<()> {
 fn put_asked(alloc: Global, bytes: &mut Vec<u8>, blocks: &[Block]) -> Option<()> {
     for block in blocks {
         let asked = input_of(alloc, block.asked)?;
-        put(bytes, asked.as_slice())?;
+        let put = put(bytes, asked.as_slice());
+        drop(asked);
+        put?;
     }
     Some(())
 }
@@ -131,7 +133,9 @@ fn put_asked(alloc: Global, bytes: &mut Vec<u8>, blocks: &[Block]) -> Option<()>
 fn put_answered(alloc: Global, bytes: &mut Vec<u8>, blocks: &[Block]) -> Option<()> {
     for block in blocks {
         let answered = output_of(alloc, block.answered)?;
-        put(bytes, answered.as_slice())?;
+        let put = put(bytes, answered.as_slice());
+        drop(answered);
+        put?;
     }
     Some(())
 }
@@ -146,13 +150,29 @@ fn status_of<S: Source, K: Sink>(
     teams_run(alloc, words, source, sink)
 }
 
+// Let go by a call: the check of a value that ends by itself writes out all its fields.
+fn comes_by(
+    alloc: Global,
+    words: &[Text],
+    wanted: u8,
+    input: &[u8],
+    output: &[u8],
+) -> Option<bool> {
+    let mut source = MemSource::new(Bytes::of(alloc, input).ok()?, 1_000, Vec::new(alloc));
+    let mut sink = MemSink::new(alloc, 1_000, Vec::new(alloc));
+    let status = status_of(alloc, words, &mut source, &mut sink);
+    let is_so = status == wanted && sink.taken() == output;
+    drop(source);
+    drop(sink);
+    Some(is_so)
+}
+
 /// Whether the row's run over this input comes to its status, and writes this.
 fn comes_to(alloc: Global, row: &Row, input: &[u8], output: &[u8]) -> Option<bool> {
     let words = texts(alloc, row.words)?;
-    let mut source = MemSource::new(Bytes::of(alloc, input).ok()?, 1_000, Vec::new(alloc));
-    let mut sink = MemSink::new(alloc, 1_000, Vec::new(alloc));
-    let status = status_of(alloc, words.as_slice(), &mut source, &mut sink);
-    Some(status == row.status && sink.taken() == output)
+    let is_so = comes_by(alloc, words.as_slice(), row.status, input, output);
+    drop(words);
+    is_so
 }
 
 // Borrows both, so that no early return drops them.

@@ -39,7 +39,9 @@ fn is_summed_up(alloc: Global, writes: &[u64], status: u8, count: usize) -> Opti
     let mut output = MemSink::new(alloc, 11, writes.to_vec(alloc).ok()?);
     let words: &[&str] = &["simulate", "7"];
     let found = played(alloc, words, b"unread", 37, &[0], &mut output);
-    Some(found == Some(status) && Some(output.taken()) == SUMMARY.as_bytes().get(..count))
+    let is_so = found == Some(status) && Some(output.taken()) == SUMMARY.as_bytes().get(..count);
+    drop(output);
+    Some(is_so)
 }
 
 #[test]
