@@ -11,7 +11,9 @@ use std::alloc::Global;
 /// What stands for the whole entries at the front of the bytes.
 fn read(alloc: Global, bytes: &[u8]) -> Option<Journal<NoListener>> {
     let mut input = MemSource::new(Bytes::of(alloc, bytes).ok()?, 64, Vec::new(alloc));
-    read_in(alloc, &mut input, NoListener).ok()?.journal
+    let found = read_in(alloc, &mut input, NoListener);
+    drop(input);
+    found.ok()?.journal
 }
 
 /// A file with the whole entries at the front of the bytes, of which the call with the number of `fails` does.
@@ -19,14 +21,20 @@ fn kept(alloc: Global, bytes: &[u8], whole: u64, fails: u64) -> Option<MemKeeper
     let mut planned = Vec::new(alloc);
     planned.push(fails).ok()?;
     let mut keeper = MemKeeper::new(alloc, 7, planned);
-    keeper.append(front_of(bytes, whole as usize)).ok()?;
-    Some(keeper)
+    match keeper.append(front_of(bytes, whole as usize)).ok() {
+        Some(()) => Some(keeper),
+        None => {
+            drop(keeper);
+            None
+        }
+    }
 }
 
-/// What the opening of the bytes leaves.
-fn opened(alloc: Global, bytes: &[u8], fails: u64) -> Option<Settled<MemKeeper, NoListener>> {
-    let found = read(alloc, bytes)?;
-    let keeper = kept(alloc, bytes, found.whole, fails)?;
+fn settled(
+    alloc: Global,
+    found: Journal<NoListener>,
+    keeper: MemKeeper,
+) -> Option<Settled<MemKeeper, NoListener>> {
     let at = Moment(found.ledger.clock().0.saturating_add(1));
     let opening = Opening::new(
         alloc,
@@ -38,13 +46,27 @@ fn opened(alloc: Global, bytes: &[u8], fails: u64) -> Option<Settled<MemKeeper, 
     opening.settle(&mut NoEnder, at).ok()
 }
 
+// Let go by a call: the check of a value that ends by itself writes out all its fields.
+/// What the opening of the bytes leaves.
+fn opened(alloc: Global, bytes: &[u8], fails: u64) -> Option<Settled<MemKeeper, NoListener>> {
+    let found = read(alloc, bytes)?;
+    match kept(alloc, bytes, found.whole, fails) {
+        Some(keeper) => settled(alloc, found, keeper),
+        None => {
+            drop(found);
+            None
+        }
+    }
+}
+
 /// Whether the opening of the bytes leaves a legal journal with nothing open.
 fn opens(alloc: Global, bytes: &[u8]) -> bool {
     match opened(alloc, bytes, u64::MAX) {
-        Some(settled) => matches!(
-            verdict(alloc, settled.keeper.bytes(), 64),
-            Some(Verdict::Legal { .. })
-        ),
+        Some(settled) => {
+            let verdict = verdict(alloc, settled.keeper.bytes(), 64);
+            drop(settled);
+            matches!(verdict, Some(Verdict::Legal { .. }))
+        }
         None => false,
     }
 }

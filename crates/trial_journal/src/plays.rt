@@ -26,7 +26,9 @@ pub fn verdict(alloc: Global, bytes: &[u8], most: usize) -> Option<Verdict>
     requires { 0 < most }
 {
     let mut input = MemSource::new(Bytes::of(alloc, bytes).ok()?, most, Vec::new(alloc));
-    checked(alloc, &mut input).ok()
+    let verdict = checked(alloc, &mut input).ok();
+    drop(input);
+    verdict
 }
 
 /// So many bytes from the front, or all where there are fewer.

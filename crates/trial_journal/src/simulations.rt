@@ -49,10 +49,14 @@ fn journal(alloc: Global, entries: &[Entry]) -> Option<Bytes> {
 // Borrows the bytes, so that no early return drops them.
 fn put_all(alloc: Global, bytes: &mut Vec<u8>, entries: &[Entry]) -> Option<()> {
     let head = write_head(alloc, &simulated_config()).ok()?;
-    bytes.extend_from_slice(head.as_bytes()).ok()?;
+    let put = bytes.extend_from_slice(head.as_bytes()).ok();
+    drop(head);
+    put?;
     for entry in entries {
         let more = write_entry(alloc, entry).ok()?;
-        bytes.extend_from_slice(more.as_bytes()).ok()?;
+        let put = bytes.extend_from_slice(more.as_bytes()).ok();
+        drop(more);
+        put?;
     }
     Some(())
 }
@@ -78,25 +82,43 @@ fn summary_of(farm: &KnownFarm) -> Summary {
 /// What is known of the farm, of which a trial asks no clause.
 fn summed_up<S: Source>(alloc: Global, input: &mut S) -> Option<Summary> {
     match read_farm(alloc, input) {
-        Ok(read) => Some(summary_of(&read.farm)),
+        Ok(read) => {
+            let summary = summary_of(&read.farm);
+            drop(read);
+            Some(summary)
+        }
         Err(_) => None,
     }
 }
 
-/// Whether the simulation has this summary, and its journal tells the same.
-fn is_so(alloc: Global, simulated: &Simulated, number: u64, expected: &str) -> Option<bool> {
-    let text = summary_text(alloc, number, &simulated.summary).ok()?;
+// Let go by a call: the check of a value that ends by itself writes out all its fields.
+/// What the journal of the simulation tells.
+fn told(alloc: Global, simulated: &Simulated) -> Option<Summary> {
     let entries = front_of(simulated.hub.journal(), simulated.at);
     let journal = journal(alloc, entries)?;
     let mut input = MemSource::new(journal, 4_096, Vec::new(alloc));
-    let summary = summed_up(alloc, &mut input)?;
-    Some(text.as_str() == expected && summary == simulated.summary)
+    let summary = summed_up(alloc, &mut input);
+    drop(input);
+    summary
+}
+
+/// Whether the simulation has this summary, and its journal tells the same.
+fn is_so(alloc: Global, simulated: &Simulated, number: u64, expected: &str) -> Option<bool> {
+    let summary = told(alloc, simulated)?;
+    let text = summary_text(alloc, number, &simulated.summary).ok()?;
+    let is_so = text.as_str() == expected && summary == simulated.summary;
+    drop(text);
+    Some(is_so)
 }
 
 fn are_so(alloc: Global, rows: &[(u64, &str)]) -> bool {
     for (number, expected) in rows {
         let so = match simulate(alloc, *number) {
-            Ok(simulated) => is_so(alloc, &simulated, *number, expected),
+            Ok(simulated) => {
+                let is_so = is_so(alloc, &simulated, *number, expected);
+                drop(simulated);
+                is_so
+            }
             Err(_) => None,
         };
         if so != Some(true) {

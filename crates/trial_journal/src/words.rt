@@ -134,12 +134,11 @@ const ROWS: &[Row] = &[
     },
 ];
 
-fn words_of(alloc: Global, words: &[&str]) -> Option<Vec<Text>> {
-    let mut texts = Vec::new(alloc);
+fn put_words(alloc: Global, texts: &mut Vec<Text>, words: &[&str]) -> Option<()> {
     for word in words {
         texts.push(Text::of(alloc, word).ok()?).ok()?;
     }
-    Some(texts)
+    Some(())
 }
 
 /// The status, of which a trial asks no clause.
@@ -152,6 +151,23 @@ fn status_of<S: Source, K: Sink>(
     check_main(alloc, words, input, output)
 }
 
+// Let go by a call: the check of a value that ends by itself writes out all its fields.
+fn came_over(
+    alloc: Global,
+    words: &[&str],
+    source: &mut MemSource,
+    output: &mut MemSink,
+) -> Option<u8> {
+    let mut texts = Vec::new(alloc);
+    let put = put_words(alloc, &mut texts, words);
+    let status = match put {
+        Some(()) => Some(status_of(alloc, texts.as_slice(), source, output)),
+        None => None,
+    };
+    drop(texts);
+    status
+}
+
 /// The status of the words. What is written goes to the output.
 fn came(
     alloc: Global,
@@ -160,16 +176,19 @@ fn came(
     reads: &[u64],
     output: &mut MemSink,
 ) -> Option<u8> {
-    let texts = words_of(alloc, words)?;
     let bytes = Bytes::of(alloc, input).ok()?;
     let mut source = MemSource::new(bytes, 50, reads.to_vec(alloc).ok()?);
-    Some(status_of(alloc, texts.as_slice(), &mut source, output))
+    let status = came_over(alloc, words, &mut source, output);
+    drop(source);
+    status
 }
 
 fn holds(alloc: Global, row: &Row) -> Option<bool> {
     let mut output = MemSink::new(alloc, 6, row.writes.to_vec(alloc).ok()?);
     let status = came(alloc, row.words, row.input, row.reads, &mut output);
-    Some(status == Some(row.status) && output.taken() == row.written)
+    let is_so = status == Some(row.status) && output.taken() == row.written;
+    drop(output);
+    Some(is_so)
 }
 
 fn all_hold(alloc: Global, rows: &[Row]) -> bool {
