@@ -36,13 +36,16 @@ fn are_connected<
     R: Net<Listener = TcpListener, Stream = TcpStream> + Clock + Copy + Send + Drop + AllocGlobal,
 >(rt: R, alloc: Global) -> bool {
     let mut door = TcpDoor::new(rt, None);
-    match bound(&mut door) {
+    let so = match bound(&mut door) {
         Some(port) => {
             let at = SocketAddr::from((Ipv4Addr::LOCALHOST, port));
             connect(&rt, &at, &mut Vec::new(alloc))
         }
         None => false,
-    }
+    };
+    // Let go by a call: the check of a value that ends by itself writes out all its fields.
+    drop(door);
+    so
 }
 
 #[test]

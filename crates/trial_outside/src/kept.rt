@@ -329,7 +329,10 @@ fn goes_so<G: Gate>(
     let Exchange(place, method, target, all, told) = *exchange;
     let mut asking = begun(alloc, gate, place, address, method, target);
     let acts = acts_all(alloc, gate, &mut asking, ready, node, at, all);
-    acts.is_some() && asking.is_told(told)
+    let so = acts.is_some() && asking.is_told(told);
+    // Let go by a call: the check of a value that ends by itself writes out all its fields.
+    drop(asking);
+    so
 }
 
 /// Whether all of them go so, one after the other, and no more connections come.
@@ -384,7 +387,10 @@ fn both_go_so<G: Gate>(
     let mut one = begun(alloc, gate, 3, address, "GET", URL);
     let mut other = begun(alloc, gate, 4, address, "POST", URL);
     let acts = acts_beside(alloc, gate, &mut one, &mut other, ready, node, at, all);
-    acts.is_some() && one.is_told(HI) && other.is_told(HI)
+    let so = acts.is_some() && one.is_told(HI) && other.is_told(HI);
+    drop(other);
+    drop(one);
+    so
 }
 
 fn go_beside<G: Gate>(
@@ -440,7 +446,10 @@ fn goes<R: Net<Listener = TcpListener, Stream = TcpStream> + Copy + Send + Drop>
         listener,
         streams: Vec::new(alloc),
     };
-    Some(goes_at(alloc, &mut gate, &mut node, &address, &nobody, &at, table))
+    let so = goes_at(alloc, &mut gate, &mut node, &address, &nobody, &at, table);
+    drop(node);
+    drop(gate);
+    Some(so)
 }
 
 #[test]

@@ -51,10 +51,15 @@ fn makes_late<R: Threads + Clock>(
     let (mut stream, _) = listener.accept().ok()?;
     let starts = is_asked(&mut stream, b"POST /session HTTP/1.1\r\n");
     let late = waits(rt, given_up);
-    stream.write_all(SESSION.as_bytes()).ok()?;
-    let (mut stream, _) = listener.accept().ok()?;
-    let ends = is_asked(&mut stream, b"DELETE /session/late HTTP/1.1\r\n");
-    stream.write_all(ENDED.as_bytes()).ok()?;
+    let made = stream.write_all(SESSION.as_bytes()).ok();
+    let (mut other, _) = listener.accept().ok()?;
+    let ends = is_asked(&mut other, b"DELETE /session/late HTTP/1.1\r\n");
+    let ended = other.write_all(ENDED.as_bytes()).ok();
+    // Let go by a call: the check of a value that ends by itself writes out all its fields.
+    drop(other);
+    drop(stream);
+    made?;
+    ended?;
     Some(starts && late && ends)
 }
 
@@ -90,7 +95,9 @@ fn gives_up<G: Gate>(
     let mut asking = begun_within(alloc, gate, address);
     let is_late = is_given_up(alloc, gate, &mut asking, ready, at, 30);
     given_up.store(true, Ordering::SeqCst);
-    ends(gate, ready, at, ended) && is_late
+    let so = ends(gate, ready, at, ended) && is_late;
+    drop(asking);
+    so
 }
 
 /// Comes to the node's door as often as it may still wait for somebody there.
@@ -112,10 +119,10 @@ fn is_ended<
     let at = AtomicU64::new(0);
     let given_up = AtomicBool::new(false);
     let ended = AtomicBool::new(false);
+    let mut ready = Vec::with_capacity(alloc, 4).ok()?;
     let (listener, port) = listener(&rt)?;
     let address = address_of(alloc, "127.0.0.1", port)?;
     let mut gate = TcpGate::new(Timed { rt, at: &at }, alloc).ok()?;
-    let mut ready = Vec::with_capacity(alloc, 4).ok()?;
     let (made, gave_up) = thread::join(
         &rt,
         || {
@@ -131,7 +138,11 @@ fn is_ended<
             so
         },
     );
-    Some(made? && gave_up)
+    drop(gate);
+    match made {
+        Some(made) => Some(made && gave_up),
+        None => None,
+    }
 }
 
 /// The session that comes after all is ended.

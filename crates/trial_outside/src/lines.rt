@@ -14,8 +14,10 @@ pub(crate) fn line_reads_none<L: Line>(line: &mut L, wanted: Reading) -> bool {
 /// A line of whose reads the first and the third find nothing there, and the second of the others fails. Of its writes the
 /// first two find nothing there, and the fourth.
 fn line(alloc: Global) -> Result<MemLine, NoMemory> {
+    let reads_none = numbers(alloc, &[0, 2])?;
+    let writes_none = numbers(alloc, &[0, 1, 3])?;
     let link = link(alloc, b"abcdefghi", &[1], &[])?;
-    Ok(MemLine::new(link, numbers(alloc, &[0, 2])?, numbers(alloc, &[0, 1, 3])?))
+    Ok(MemLine::new(link, reads_none, writes_none))
 }
 
 fn goes(link: &mut AwaitedLink<MemGate>) -> bool {
@@ -28,18 +30,28 @@ fn goes(link: &mut AwaitedLink<MemGate>) -> bool {
 }
 
 /// Whether the line goes so at a gate that finds no room for these links, or finds no room there.
-fn goes_at(alloc: Global, line: MemLine, fails: Vec<u64>, has_room: bool) -> bool {
+fn goes_at(alloc: Global, fails: &[u64], has_room: bool) -> Result<bool, NoMemory> {
+    let fails = numbers(alloc, fails)?;
+    let line = line(alloc)?;
     match AwaitedLink::new(alloc, MemGate::new(alloc, fails), line) {
-        Ok(mut link) => has_room && goes(&mut link),
-        Err(_) => !has_room,
+        Ok(mut link) => {
+            let so = has_room && goes(&mut link);
+            // Let go by a call: the check of a value that ends by itself writes out all its fields.
+            drop(link);
+            Ok(so)
+        }
+        Err(gate) => {
+            drop(gate);
+            Ok(!has_room)
+        }
     }
 }
 
 #[test]
 fn a_line_is_waited_for(rt: HostRuntime) -> Result<(), NoMemory> {
     let alloc = rt.alloc();
-    let goes = goes_at(alloc, line(alloc)?, numbers(alloc, &[])?, true);
-    let finds_none = goes_at(alloc, line(alloc)?, numbers(alloc, &[0])?, false);
+    let goes = goes_at(alloc, &[], true)?;
+    let finds_none = goes_at(alloc, &[0], false)?;
     assert!(rt; goes && finds_none);
     Ok(())
 }

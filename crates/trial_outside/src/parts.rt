@@ -19,9 +19,11 @@ pub(crate) fn link(
     reads_fail: &[u64],
     writes_fail: &[u64],
 ) -> Result<MemLink, NoMemory> {
+    let reads_fail = numbers(alloc, reads_fail)?;
+    let writes_fail = numbers(alloc, writes_fail)?;
     let bytes = Bytes::of(alloc, input)?;
-    let source = MemSource::new(bytes, 7, numbers(alloc, reads_fail)?);
-    let sink = MemSink::new(alloc, 9, numbers(alloc, writes_fail)?);
+    let source = MemSource::new(bytes, 7, reads_fail);
+    let sink = MemSink::new(alloc, 9, writes_fail);
     Ok(MemLink::new(source, sink))
 }
 

@@ -32,7 +32,12 @@ fn told(alloc: Global, words: &[Text]) -> Option<String> {
         return format!(in alloc; "simulate {number}").ok();
     }
     match read_play(alloc, words) {
-        Ok(play) => play_told(alloc, &play),
+        Ok(play) => {
+            let told = play_told(alloc, &play);
+            // Let go by a call: the check of a value that ends by itself writes out all its fields.
+            drop(play);
+            told
+        }
         Err(WordsFault::Refused) => String::from_str(alloc, "refused").ok(),
         Err(WordsFault::Memory) => None,
     }
@@ -84,8 +89,9 @@ const ROWS: &[(&str, &str)] = &[
 
 fn says(alloc: Global, line: &str, wanted: &str) -> Option<bool> {
     let words = words_of(alloc, line)?;
-    let text = told(alloc, words.as_slice())?;
-    Some(text.as_str() == wanted)
+    let text = told(alloc, words.as_slice());
+    drop(words);
+    Some(text?.as_str() == wanted)
 }
 
 fn all_say(alloc: Global, rows: &[(&str, &str)]) -> Option<bool> {

@@ -40,8 +40,17 @@ fn serves(alloc: Global, node: &mut LoopNode, link: &mut MemLink, row: &Row) -> 
 /// The same by a node of its own.
 fn serves_alone(alloc: Global, row: &Row) -> Result<bool, NoMemory> {
     let mut node = node(alloc)?;
-    let mut link = link(alloc, ASKED, row.0, row.1)?;
-    Ok(serves(alloc, &mut node, &mut link, row))
+    let so = match link(alloc, ASKED, row.0, row.1) {
+        Ok(mut link) => {
+            let so = serves(alloc, &mut node, &mut link, row);
+            // Let go by a call: the check of a value that ends by itself writes out all its fields.
+            drop(link);
+            Ok(so)
+        }
+        Err(fault) => Err(fault),
+    };
+    drop(node);
+    so
 }
 
 fn all_are_served(alloc: Global, rows: &[Row]) -> Result<bool, NoMemory> {

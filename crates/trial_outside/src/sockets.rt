@@ -48,24 +48,44 @@ fn goes_to_its_end<L: Link>(link: &mut L, mut client: TcpStream) -> bool {
 /// The link of the client that comes in next, waited for by a gate of the door.
 pub(crate) fn next_link<D: Door>(alloc: Global, door: &mut D) -> Option<AwaitedLink<D::G>> {
     let gate = door.gate().ok()?;
-    match door.accept() {
-        Ok(Some(link)) => AwaitedLink::new(alloc, gate, link).ok(),
-        _ => None,
+    let link = match door.accept() {
+        Ok(link) => link,
+        Err(_) => None,
+    };
+    match link {
+        Some(link) => AwaitedLink::new(alloc, gate, link).ok(),
+        None => {
+            drop(gate);
+            None
+        }
     }
 }
 
 /// Whether it is closed.
 fn closed<D: Door>(door: &mut D) -> bool {
-    match door.accept() {
-        Ok(link) => link.is_none(),
-        Err(_) => false,
-    }
+    let came = door.accept();
+    let so = matches!(came, Ok(None));
+    // Let go by a call: the check of a value that ends by itself writes out all its fields.
+    drop(came);
+    so
+}
+
+/// Whether an accept fails.
+pub(crate) fn is_unbound<D: Door>(door: &mut D) -> bool {
+    let came = door.accept();
+    let so = came.is_err();
+    drop(came);
+    so
 }
 
 /// Whether it hands the client's link out.
 fn hands_out<D: Door>(alloc: Global, door: &mut D, client: TcpStream) -> bool {
     match next_link(alloc, door) {
-        Some(mut link) => goes_to_its_end(&mut link, client),
+        Some(mut link) => {
+            let so = goes_to_its_end(&mut link, client);
+            drop(link);
+            so
+        }
         None => false,
     }
 }
@@ -80,16 +100,18 @@ fn opens_once<R: Net<Stream = TcpStream>, D: Door>(
     alloc: Global,
     door: &mut D,
 ) -> Option<bool> {
-    let unbound = door.accept().is_err();
+    let unbound = is_unbound(door);
     let port = bound(door)?;
     let client = connected(rt, port)?;
-    Some(unbound && hands_out(alloc, door, client) && closed(door))
+    let handed = hands_out(alloc, door, client);
+    Some(unbound && handed && closed(door))
 }
 
 #[test]
 fn a_door_closes_after_its_links(rt: HostRuntime) {
     let mut door = TcpDoor::new(rt, Some(1));
     let so = opens_once(&rt, rt.alloc(), &mut door);
+    drop(door);
     assert!(rt; so == Some(true));
 }
 
@@ -98,8 +120,13 @@ pub(crate) fn listener<R: Net<Listener = TcpListener, Stream = TcpStream>>(
     rt: &R,
 ) -> Option<(TcpListener, u16)> {
     let listener = TcpListener::bind(rt, (Ipv4Addr::LOCALHOST, 0)).ok()?;
-    let port = listener.local_addr().ok()?.port();
-    Some((listener, port))
+    match listener.local_addr().ok() {
+        Some(at) => Some((listener, at.port())),
+        None => {
+            drop(listener);
+            None
+        }
+    }
 }
 
 /// Reads a request, and answers with these bytes; whether the request begins as the one that was asked for.
@@ -177,7 +204,9 @@ pub(crate) fn address_of(alloc: Global, host: &str, port: u16) -> Option<NodeAdd
 /// Whether this comes of a request to a node at the address.
 fn comes_so<N: NodeLink>(alloc: Global, nodes: &mut N, address: &NodeAddress, told: Told) -> bool {
     let came = nodes.exchange(alloc, address, &request(b"GET", b"/status", b""));
-    came_so(&came, told)
+    let so = came_so(&came, told);
+    drop(came);
+    so
 }
 
 /// Whether it is asked as it is to be, and this comes of it where it replies so.
@@ -195,6 +224,7 @@ fn goes_so<R: Threads + Net<Listener = TcpListener, Stream = TcpStream> + Copy +
         || answers_once(&listener, reply.as_bytes()),
         || comes_so(alloc, &mut nodes, &address, told),
     );
+    drop(nodes);
     Some(is_asked && is_told)
 }
 
@@ -214,7 +244,9 @@ fn reaches_none<R: Net<Listener = TcpListener, Stream = TcpStream> + Copy + Drop
 ) -> Option<bool> {
     let address = empty_address(&rt, alloc)?;
     let mut nodes = TcpNodes::new(rt);
-    Some(comes_so(alloc, &mut nodes, &address, Told::Nothing))
+    let so = comes_so(alloc, &mut nodes, &address, Told::Nothing);
+    drop(nodes);
+    Some(so)
 }
 
 #[test]

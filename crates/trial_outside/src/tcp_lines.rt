@@ -1,7 +1,7 @@
 //! Lines over TCP, and how they end.
 use crate::lines::line_reads_none;
 use crate::links::writes;
-use crate::sockets::{bound, connected, listener, next_link};
+use crate::sockets::{bound, connected, is_unbound, listener, next_link};
 use crate::tcp_nodes::Timed;
 use grid_outside::{AwaitedLink, Door, Gate, Line, Reading};
 use grid_sockets::{TcpDoor, TcpLine};
@@ -13,6 +13,8 @@ use std::process::Abort;
 use std::sync::atomic::{AtomicU64, Ordering};
 use std::time::{Clock, Duration};
 
+// What ends is let go by a call: the check of a value that ends by itself writes out all its fields.
+
 /// A line over the loopback whose clock shows the number's seconds, and its client.
 fn line_and_client<'a, R: Net<Listener = TcpListener, Stream = TcpStream>>(
     rt: &R,
@@ -21,11 +23,16 @@ fn line_and_client<'a, R: Net<Listener = TcpListener, Stream = TcpStream>>(
     let (listener, port) = listener(rt)?;
     let client = connected(rt, port)?;
     let (stream, _) = listener.accept().ok()?;
-    stream.set_nonblocking(true).ok()?;
-    Some((
-        TcpLine::new(Timed { rt: (), at }, net::TcpStream::from_std(stream)),
-        client,
-    ))
+    let is_set = stream.set_nonblocking(true).ok();
+    let line = TcpLine::new(Timed { rt: (), at }, net::TcpStream::from_std(stream));
+    match is_set {
+        Some(()) => Some((line, client)),
+        None => {
+            drop(client);
+            drop(line);
+            None
+        }
+    }
 }
 
 /// Whether nothing is there yet at this second, and the second behind it ends the line.
@@ -52,8 +59,11 @@ fn soon_reads<L: Line>(line: &mut L, text: &str) -> bool {
 /// A client may send nothing for 30 s first.
 fn ends_before_a_byte<R: Net<Listener = TcpListener, Stream = TcpStream>>(rt: &R) -> Option<bool> {
     let at = AtomicU64::new(7);
-    let (mut line, _client) = line_and_client(rt, &at)?;
-    Some(line_reads_none(&mut line, Reading::NotNow) && ends_behind(&mut line, &at, 36))
+    let (mut line, client) = line_and_client(rt, &at)?;
+    let so = line_reads_none(&mut line, Reading::NotNow) && ends_behind(&mut line, &at, 36);
+    drop(client);
+    drop(line);
+    Some(so)
 }
 
 /// And for 300 s behind a byte.
@@ -62,7 +72,10 @@ fn ends_behind_a_byte<R: Net<Listener = TcpListener, Stream = TcpStream>>(rt: &R
     let (mut line, mut client) = line_and_client(rt, &at)?;
     let goes = client.write_all(b"abc").is_ok() && soon_reads(&mut line, "abc");
     let waits = line_reads_none(&mut line, Reading::NotNow);
-    Some(goes && waits && ends_behind(&mut line, &at, 336))
+    let so = goes && waits && ends_behind(&mut line, &at, 336);
+    drop(client);
+    drop(line);
+    Some(so)
 }
 
 #[test]
@@ -91,18 +104,34 @@ fn is_heard_over<G: Gate + Drop>(
     let mut gate = link.into_gate();
     let more = client.write_all(&[0; 4_096]).is_ok();
     gate.wait(0, &mut Vec::new(alloc));
-    written && more && hears_to_the_end(client, "de")
+    let so = written && more && hears_to_the_end(client, "de");
+    drop(gate);
+    so
+}
+
+fn is_heard_at<R: Net<Stream = TcpStream>, D: Door>(
+    rt: &R,
+    alloc: Global,
+    door: &mut D,
+) -> Option<bool> {
+    let port = bound(door)?;
+    let mut client = connected(rt, port)?;
+    let sent = client.write_all(&[0; 4_096]).is_ok();
+    let so = match next_link(alloc, door) {
+        Some(link) => Some(is_heard_over(alloc, link, &mut client) && sent),
+        None => None,
+    };
+    drop(client);
+    so
 }
 
 fn is_heard_unread<
     R: Net<Listener = TcpListener, Stream = TcpStream> + Clock + Copy + Send + Drop + AllocGlobal,
 >(rt: R, alloc: Global) -> Option<bool> {
     let mut door = TcpDoor::new(rt, None);
-    let port = bound(&mut door)?;
-    let mut client = connected(&rt, port)?;
-    let sent = client.write_all(&[0; 4_096]).is_ok();
-    let link = next_link(alloc, &mut door)?;
-    Some(sent && is_heard_over(alloc, link, &mut client))
+    let so = is_heard_at(&rt, alloc, &mut door);
+    drop(door);
+    so
 }
 
 /// Whether less than half a minute has gone by.
@@ -113,16 +142,25 @@ fn is_soon<C: Clock>(clock: &C, before: Duration) -> bool {
     }
 }
 
+/// Whether the wait ends, behind an accept that fails.
+fn wait_ends<D: Door>(alloc: Global, door: &mut D) -> Option<bool> {
+    let mut gate = door.gate().ok()?;
+    let unbound = is_unbound(door);
+    gate.wait(60_000, &mut Vec::new(alloc));
+    drop(gate);
+    Some(unbound)
+}
+
 /// Whether an accept, which fails where nothing is bound, ends a wait.
 fn rings<
     R: Net<Listener = TcpListener, Stream = TcpStream> + Clock + Copy + Send + Drop + AllocGlobal,
 >(rt: R, alloc: Global) -> Option<bool> {
     let before = rt.monotonic().ok()?;
     let mut door = TcpDoor::new(rt, None);
-    let mut gate = door.gate().ok()?;
-    let unbound = door.accept().is_err();
-    gate.wait(60_000, &mut Vec::new(alloc));
-    Some(unbound && is_soon(&rt, before))
+    let unbound = wait_ends(alloc, &mut door);
+    let soon = is_soon(&rt, before);
+    drop(door);
+    Some(unbound? && soon)
 }
 
 #[test]

@@ -7,6 +7,7 @@ use grid_outside::{ExchangeFault, Gate, NodeLine, Reply};
 use grid_sockets::TcpGate;
 use grid_types::NodeAddress;
 use std::alloc::Global;
+use std::mem::replace;
 use std::net::{Net, SocketAddr, TcpListener, TcpStream};
 use std::process::Abort;
 use std::sync::atomic::{AtomicU64, Ordering};
@@ -45,9 +46,11 @@ impl<N: NodeLine + Drop> Asking<N> {
         self.came.is_none()
     }
 
+    // What came is let go by a call: the check of a value that ends by itself writes out all its fields.
     pub(crate) fn look(&mut self, alloc: Global) {
         if self.came.is_none() {
-            self.came = self.nodes.came(alloc);
+            let came = self.nodes.came(alloc);
+            drop(replace(&mut self.came, came));
         }
     }
 
@@ -101,7 +104,9 @@ pub(crate) fn comes_so<G: Gate>(
     };
     let mut asking = begun(alloc, gate, PLACE, address, "GET", "/status");
     waits(alloc, gate, &mut asking, &mut ready);
-    asking.is_told(told)
+    let so = asking.is_told(told);
+    drop(asking);
+    so
 }
 
 /// Whether a node at the host is asked as it is to be, and this comes of it where it replies so.
@@ -116,6 +121,7 @@ fn goes_so<
         || answers_once(&listener, reply),
         || comes_so(alloc, &mut gate, &address, told),
     );
+    drop(gate);
     Some(is_asked && is_told)
 }
 
@@ -229,7 +235,9 @@ fn gives_up<G: Gate>(
     let (method, target, seconds) = request;
     at.store(0, Ordering::SeqCst);
     let mut asking = begun(alloc, gate, PLACE, address, method, target);
-    is_given_up(alloc, gate, &mut asking, ready, at, seconds)
+    let so = is_given_up(alloc, gate, &mut asking, ready, at, seconds);
+    drop(asking);
+    so
 }
 
 /// A command gets 600 s, what ends a session for the hub 30 s.
