@@ -199,7 +199,7 @@ const HTTP_A: Told = Told::Raw(
 const ASKS_1: &str = "POST loop:1/session; ";
 
 /// Connections that go the same way over each hub.
-pub(crate) static WORKED: [Play; 27] = [
+pub(crate) const WORKED: [Play; 27] = [
     // A session; nothing; two where one fits; in whatever form it is asked for.
     Play {
         nodes: &[CHROME_NODE],
@@ -669,7 +669,7 @@ pub(crate) static MISBEHAVING: [Play; 13] = [
 ];
 
 /// A node that is drained serves on, and takes no more. It stays listed where nobody sweeps.
-pub(crate) static DRAINED_STAYS: Play = Play {
+pub(crate) const DRAINED_STAYS: Play = Play {
     nodes: &[("chrome", "126.0", 2)],
     sends: &[
         New(CHROME),
@@ -691,7 +691,7 @@ pub(crate) static DRAINED_STAYS: Play = Play {
 };
 
 /// The same where the hub is swept before each request: it is removed once its session has ended.
-pub(crate) static DRAINED_GOES: Play = Play {
+pub(crate) const DRAINED_GOES: Play = Play {
     nodes: &[("chrome", "126.0", 2)],
     sends: &[
         New(CHROME),
