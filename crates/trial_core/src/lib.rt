@@ -1,4 +1,5 @@
-//! Plays of the hub of one caller, what a dispatch compares in worked cases, and calls with memory refused in turn.
+//! Plays of the hub of one caller, what a dispatch compares in worked cases, and calls with memory refused in turn; worked cases of the
+//! rules below it.
 #![tactic(auto)]
 
 #[cfg(test)]
@@ -7,3 +8,5 @@ mod costs;
 mod plays;
 #[cfg(test)]
 mod refused_memory;
+#[cfg(test)]
+mod rules;

@@ -1,8 +1,10 @@
-//! Trials of simulations, of the check of a journal, and of what a journal tells of a farm.
+//! Trials of simulations, of the check of a journal, of its log, and of what it tells of a farm.
 #![tactic(auto)]
 
 #[cfg(test)]
 mod entries;
+#[cfg(test)]
+mod log;
 #[cfg(test)]
 mod openings;
 #[cfg(test)]

@@ -1,10 +1,13 @@
-//! Trials of whole connections in one thread: what comes in, what is written, and the status.
+//! Trials of whole connections in one thread: what comes in, what is written, and the status; of a hub that keeps its calls; and tables of
+//! the texts that connections are made of.
 #![tactic(auto)]
 
 #[cfg(test)]
 mod asked;
 #[cfg(test)]
 mod failures;
+#[cfg(test)]
+mod keeper;
 #[cfg(test)]
 mod messages;
 #[cfg(test)]
@@ -19,5 +22,7 @@ mod rows;
 mod sessions;
 #[cfg(test)]
 mod teams;
+#[cfg(test)]
+mod texts;
 #[cfg(test)]
 mod words;

@@ -1,4 +1,5 @@
-//! Trials of the running hub, which show what no clause says: that its parts run beside each other.
+//! Trials of the running hub, which show what no clause says: that its parts run beside each other; and of the programs' arguments, with a
+//! node and a driver as their programs run them.
 #![tactic(auto)]
 
 #[cfg(test)]
@@ -13,6 +14,8 @@ mod held;
 mod held_gate;
 #[cfg(test)]
 mod loopback;
+#[cfg(test)]
+mod programs;
 #[cfg(test)]
 mod starting;
 #[cfg(test)]

@@ -1,4 +1,4 @@
-use Rattle.trial_rules.proofs.selecting.choose.Given as goal
+use Rattle.trial_core.proofs.rules.selecting.choose.Given as goal
 
 abbrev pub ghosts-counted : goal.ghosts-counted
 ghosts-counted a = record { name = a.blank.name; parts = a.blank.parts }

@@ -1,8 +1,8 @@
 //! Which capabilities match, by outside cases.
 ghost use Rattle.std.specs.Prelude.{◌≡◌, ◌<◌};
 
-use crate::members::Kind::{Off, On, Raw, Text};
-use crate::members::{Member, put};
+use crate::rules::members::Kind::{Off, On, Raw, Text};
+use crate::rules::members::{Member, put};
 use grid_types::{Caps, NoMemory};
 use slot_match::*;
 use std::alloc::Global;

@@ -1,5 +1,5 @@
 //! A node's program over TCP: it registers and serves a client.
-use crate::lists::list;
+use crate::programs::lists::list;
 use grid_node::node_main;
 use grid_outside::Door;
 use grid_sockets::TcpDoor;

@@ -1,5 +1,5 @@
 //! A driver that is put behind a hub, both in memory.
-use crate::lists::list;
+use crate::programs::lists::list;
 use grid_attach::{attach, attach_main};
 use grid_outside::{Clock, Exchange, MemClock, MemNodes, NodeLink, NodeReply, Reply};
 use grid_types::{Bytes, Moment, NodeNo, Text};

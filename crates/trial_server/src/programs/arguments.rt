@@ -1,5 +1,5 @@
 //! Words of the programs with what they say.
-use crate::lists::list;
+use crate::programs::lists::list;
 use server_words::*;
 use std::alloc::Global;
 use std::net::{IpAddr, Ipv4Addr, Ipv6Addr};

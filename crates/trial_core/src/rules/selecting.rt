@@ -2,7 +2,7 @@
 ghost use Rattle.std.specs.Prelude.{◌≡◌, ◌<◌, ◌≤◌, length};
 ghost use Rattle.grid_types.specs.Nodes.{stereotypes};
 
-use crate::members::{Kind, put};
+use crate::rules::members::{Kind, put};
 use grid_types::{Caps, NoMemory, SlotGroup, SlotId};
 use slot_match::Steps;
 use slot_select::*;
