@@ -1,7 +1,8 @@
 //! What goes the same way over a hub of one thread and over a shared one. A table is named in one function alone, since each that names
 //! it has it written out.
 use crate::tables::{
-    DRAINED_GOES, DRAINED_STAYS, FAILING, FailingRow, MISBEHAVING, Play, WORKED, malicious_rows,
+    DRAINED_GOES, DRAINED_STAYS, FAILING, FORMS, FailingRow, MISBEHAVING, Play, STARTED, USED,
+    malicious_rows,
 };
 use crate::{local, plays, seats};
 use std::alloc::Global;
@@ -29,8 +30,22 @@ fn one_call_fails(rt: HostRuntime) {
 }
 
 #[test]
-fn connections_go_as_worked_out(rt: HostRuntime) {
-    assert!(rt; all_go(&rt, rt.alloc(), &WORKED));
+fn sessions_are_started_as_worked_out(rt: HostRuntime) {
+    assert!(rt; all_go(&rt, rt.alloc(), &STARTED));
+}
+
+#[test]
+fn sessions_are_used_as_worked_out(rt: HostRuntime) {
+    assert!(rt; all_go(&rt, rt.alloc(), &USED));
+}
+
+#[test]
+fn requests_of_each_form_go_as_worked_out(rt: HostRuntime) {
+    assert!(rt; all_go(&rt, rt.alloc(), &FORMS));
+}
+
+#[test]
+fn a_drained_node_goes_as_worked_out(rt: HostRuntime) {
     assert!(rt; drained_go(&rt, rt.alloc(), &DRAINED_GOES, &DRAINED_STAYS));
 }
 

@@ -198,8 +198,8 @@ const HTTP_A: Told = Told::Raw(
 
 const ASKS_1: &str = "POST loop:1/session; ";
 
-/// Connections that go the same way over each hub.
-pub(crate) const WORKED: [Play; 27] = [
+/// Sessions that are asked for. Each goes the same way over each hub, as those below.
+pub(crate) static STARTED: [Play; 11] = [
     // A session; nothing; two where one fits; in whatever form it is asked for.
     Play {
         nodes: &[CHROME_NODE],
@@ -334,6 +334,10 @@ pub(crate) const WORKED: [Play; 27] = [
         end: End::Closed,
         asks: "POST loop:1/session; POST loop:1/session; ",
     },
+];
+
+/// Sessions that are used, nodes that are chosen or gone, and how long a request waits.
+pub(crate) static USED: [Play; 7] = [
     // Sessions that are used and ended.
     Play {
         nodes: &[CHROME_NODE],
@@ -413,6 +417,10 @@ pub(crate) const WORKED: [Play; 27] = [
         end: End::Closed,
         asks: "",
     },
+];
+
+/// The forms of a request, the status, the queue, and nodes that register.
+pub(crate) static FORMS: [Play; 9] = [
     // The forms of a request: cut short, with both lengths, on an older path, that closes, in chunks, with a client that waits.
     Play {
         nodes: &[CHROME_NODE],
