@@ -161,7 +161,16 @@ impl<L: Line + Drop, N: NodeLine + Drop, C: Clock> Seat<L, N, C> {
     pub fn into_pass(self) -> Pass
         ensures { result ≡ pass_of self }
     {
-        let Seat { pass, .. } = self;
+        let Seat {
+            pass,
+            talk,
+            line,
+            nodes,
+            ..
+        } = self;
+        drop(talk);
+        drop(line);
+        drop(nodes);
         pass
     }
 }
