@@ -254,6 +254,23 @@ fn fault_for(error: Error) -> AttachFault
     }
 }
 
+/// What this command finds in the words.
+fn found_by<'a>(command: Command<'a>, words: &'a [&'a str]) -> Result<ArgMatches<'a>, AttachFault>
+    requires { is_simple_and_free (app_of command) ≡ true }
+    ensures taken { IfOk result (λ _. IsTaken (app_of command.entry)
+        (map (λ s. s.now) words.entry.now)) }
+    ensures rows { IfOk result (λ m. rows_of (found_of m)
+        ≡ matches_of (app_of command.entry) (map (λ s. s.now) words.entry.now)) }
+    ensures numbers { IfOk result (λ m. NumbersFit (app_of command.entry) (rows_of (found_of m))) }
+    ensures why { IfErr result (λ f. HasWordCause f (app_of command.entry)
+        (map (λ s. s.now) words.entry.now)) }
+{
+    match matched(command, words) {
+        Ok(matches) => Ok(matches),
+        Err(error) => Err(fault_for(error)),
+    }
+}
+
 /// What the command finds in the words.
 fn found<'a>(alloc: Global, words: &'a [&'a str]) -> Result<ArgMatches<'a>, AttachFault>
     ensures taken { IfOk result (λ _. IsTaken attach_command (map (λ s. s.now) words.entry.now)) }
@@ -263,12 +280,9 @@ fn found<'a>(alloc: Global, words: &'a [&'a str]) -> Result<ArgMatches<'a>, Atta
     ensures why { IfErr result (λ f. HasWordCause f attach_command
         (map (λ s. s.now) words.entry.now)) }
 {
-    let Ok(command) = command(alloc) else {
-        return Err(AttachFault::Memory);
-    };
-    match matched(command, words) {
-        Ok(matches) => Ok(matches),
-        Err(error) => Err(fault_for(error)),
+    match command(alloc) {
+        Ok(command) => found_by(command, words),
+        Err(_) => Err(AttachFault::Memory),
     }
 }
 
