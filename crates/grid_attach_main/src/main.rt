@@ -3,7 +3,9 @@
 
 use grid_attach::attach_main;
 use grid_console::{Asked, NoWords, ToldNodes, words};
+use grid_outside::{Clock, NodeLink};
 use grid_sockets::{MachineClock, TcpNodes};
+use grid_types::Text;
 use server_words::{ATTACH_USAGE, AttachFault};
 use std::alloc::Global;
 use std::process::ExitCode;
@@ -32,6 +34,16 @@ fn status_of(rt: HostRuntime, fault: &AttachFault) -> u8 {
     }
 }
 
+// Over any nodes and clock: the check of a call that has its clauses written out for these takes many times as long.
+fn attached<N: NodeLink, C: Clock>(
+    alloc: Global,
+    words: &[Text],
+    nodes: &mut N,
+    clock: &mut C,
+) -> Result<(), AttachFault> {
+    attach_main(alloc, words, nodes, clock, u64::MAX)
+}
+
 /// Puts the driver of the words behind the hub, for as long as the program runs, or tells what they ask of the program.
 fn run(rt: HostRuntime) -> u8 {
     let alloc: Global = rt.alloc();
@@ -46,7 +58,7 @@ fn run(rt: HostRuntime) -> u8 {
     }
     let mut nodes = ToldNodes::new(rt, "grid_attach", TcpNodes::new(rt), None);
     let mut clock = MachineClock::new(rt);
-    match attach_main(alloc, words.as_slice(), &mut nodes, &mut clock, u64::MAX) {
+    match attached(alloc, words.as_slice(), &mut nodes, &mut clock) {
         Ok(()) => 0,
         Err(fault) => status_of(rt, &fault),
     }

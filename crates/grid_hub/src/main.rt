@@ -2,11 +2,13 @@
 #![tactic(auto)]
 
 use grid_console::{Asked, NoWords, ToldBind, words};
+use grid_outside::Door;
 use grid_sockets::{MachineClock, TcpDoor, TcpNodes};
 use grid_types::Text;
 use hub_journal::{FileHub, HubSide, run_told};
-use hub_server::hub_main_by;
+use hub_server::{Begins, hub_main_by};
 use server_words::{HUB_USAGE, hub_reason};
+use std::alloc::Global;
 use std::process::ExitCode;
 use std::sync::Wait;
 use std::thread::Threads;
@@ -25,6 +27,17 @@ fn explain(rt: HostRuntime, words: &[Text]) {
     if let Some(reason) = hub_reason(rt.alloc(), words) {
         let _ = eprintln!(rt; "{NAME}: {reason}");
     }
+}
+
+// Over any door and hub: the check of a call that has its clauses written out for these takes many times as long.
+fn served<R: Threads + Wait + Sync, D: Door, B: Begins>(
+    rt: &R,
+    alloc: Global,
+    words: &[Text],
+    door: &mut D,
+    hub: &mut B,
+) -> u8 {
+    hub_main_by(rt, alloc, words, door, hub)
 }
 
 /// What a hub serves by.
@@ -51,7 +64,7 @@ impl<R: Threads + Wait + Sync> Job<'_, R> {
             MachineClock::new(host),
             side,
         );
-        let status = hub_main_by(self.rt, host.alloc(), self.words, &mut door, &mut hub);
+        let status = served(self.rt, host.alloc(), self.words, &mut door, &mut hub);
         if let Some(trouble) = hub.trouble() {
             let path = hub.path();
             let _ = eprintln!(host; "{NAME}: the journal {path}: {trouble}");

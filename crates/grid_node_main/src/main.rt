@@ -3,10 +3,14 @@
 
 use grid_console::{Asked, NoWords, ToldBind, ToldHub, words};
 use grid_node::node_main;
+use grid_outside::Door;
 use grid_sockets::TcpDoor;
 use grid_types::Text;
 use server_words::{NODE_USAGE, node_reason};
+use std::alloc::Global;
 use std::process::ExitCode;
+use std::sync::Wait;
+use std::thread::Threads;
 
 /// The words don't fit.
 const REFUSED: u8 = 2;
@@ -21,6 +25,16 @@ fn explain(rt: HostRuntime, words: &[Text]) {
     }
 }
 
+// Over any door: the check of a call that has its clauses written out for this one takes many times as long.
+fn served<R: Threads + Wait + Sync, D: Door>(
+    rt: &R,
+    alloc: Global,
+    words: &[Text],
+    door: &mut D,
+) -> u8 {
+    node_main(rt, alloc, words, door)
+}
+
 fn main(rt: HostRuntime) -> ExitCode {
     let status = match words(&rt) {
         Ok(words) => match Asked::of(words.as_slice()) {
@@ -31,7 +45,7 @@ fn main(rt: HostRuntime) -> ExitCode {
             None => {
                 let bind = ToldBind::new(rt, "grid_node", TcpDoor::new(rt, None));
                 let mut door = ToldHub::new(rt, "grid_node", bind);
-                let status = node_main(&rt, rt.alloc(), words.as_slice(), &mut door);
+                let status = served(&rt, rt.alloc(), words.as_slice(), &mut door);
                 if status == REFUSED {
                     explain(rt, words.as_slice());
                 }
