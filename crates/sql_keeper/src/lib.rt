@@ -6,5 +6,5 @@ mod either;
 mod faults;
 mod sql_keeper;
 
-pub use either::EitherDisk;
+pub use either::EitherKeeper;
 pub use sql_keeper::SqlKeeper;
