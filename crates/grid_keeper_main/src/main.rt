@@ -8,7 +8,7 @@ use grid_types::Text;
 use kept_play::kept_run;
 use row_keeper::Keeper;
 use sql_keeper::{EitherKeeper, SqlKeeper};
-use sqlite::{Alter, Connection, File, FileStore, MemStore};
+use sqlite::{Alter, Connection, FileFrom, FileStore, MemStore, Start, Unknown};
 use std::alloc::Global;
 use std::process::ExitCode;
 
@@ -31,8 +31,12 @@ const NO_MEMORY: u8 = 5;
 /// The database can't be opened, or is no keeper's.
 const KEEPER_FAILED: u8 = 8;
 
-/// A keeper over a database in memory or in a file.
-type Kept = EitherKeeper<MemStore, FileStore<File>>;
+/// A connection to a database in memory or to one in a file.
+#[derive(Drop)]
+enum Opened<M: Alter, F: Alter> {
+    Memory(Connection<M>),
+    File(Connection<F>),
+}
 
 /// A keeper over the connection, where it can be one.
 fn keeper_of<S: Alter + Drop>(conn: Connection<S>) -> Option<SqlKeeper<S>> {
@@ -41,30 +45,16 @@ fn keeper_of<S: Alter + Drop>(conn: Connection<S>) -> Option<SqlKeeper<S>> {
     SqlKeeper::adopt(conn).ok()
 }
 
-/// A keeper over a database in memory.
-fn in_memory(rt: &HostRuntime) -> Result<Kept, u8> {
-    let alloc: Global = rt.alloc();
-    let Ok(conn) = Connection::open_in_memory(alloc) else {
-        return Err(NO_MEMORY);
-    };
-    match keeper_of(conn) {
-        Some(keeper) => Ok(EitherKeeper::Memory(keeper)),
-        None => Err(KEEPER_FAILED),
+fn either_of<M: Alter + Drop, F: Alter + Drop>(opened: Opened<M, F>) -> Option<EitherKeeper<M, F>> {
+    match opened {
+        Opened::Memory(conn) => Some(EitherKeeper::Memory(keeper_of(conn)?)),
+        Opened::File(conn) => Some(EitherKeeper::File(keeper_of(conn)?)),
     }
 }
 
-/// A keeper over a database in a file.
-fn in_file(rt: &HostRuntime, path: &Text) -> Result<Kept, u8> {
-    let Ok(conn) = Connection::open(rt, path.as_str()) else {
-        return Err(KEEPER_FAILED);
-    };
-    match keeper_of(conn) {
-        Some(keeper) => Ok(EitherKeeper::File(keeper)),
-        None => Err(KEEPER_FAILED),
-    }
-}
+// These are over any ends, keepers and stores: the check of a call that names an input, a keeper or a store of the program takes
+// many times as long. So a store is named where it is opened, and handed on in one function alone.
 
-// Over any ends: the check of a call that has its clauses written out for these ends takes many times as long.
 fn status_over<S: Source, K: Sink, P: Keeper + Drop>(
     alloc: Global,
     words: &[Text],
@@ -76,15 +66,49 @@ fn status_over<S: Source, K: Sink, P: Keeper + Drop>(
     status
 }
 
-/// Plays what the words say over the keeper, where there is one.
-fn play(rt: &HostRuntime, keeper: Result<Kept, u8>, words: &[Text]) -> u8 {
-    let keeper = match keeper {
-        Ok(keeper) => keeper,
-        Err(status) => return status,
-    };
+/// Plays what the words say over the keeper.
+fn play_over<P: Keeper + Drop>(rt: &HostRuntime, keeper: P, words: &[Text]) -> u8 {
     let mut input = StandardInput::new(rt);
     let mut output = StandardOutput::new(rt);
     status_over(rt.alloc(), words, &mut input, &mut output, keeper)
+}
+
+/// Plays over a keeper over the database, where it can be one's.
+fn play_by<M: Alter + Drop, F: Alter + Drop>(
+    rt: &HostRuntime,
+    opened: Opened<M, F>,
+    words: &[Text],
+) -> u8 {
+    match either_of(opened) {
+        Some(keeper) => play_over(rt, keeper, words),
+        None => KEEPER_FAILED,
+    }
+}
+
+/// Opens the file of this path, or else a database in memory. Err is the status where that can't be.
+fn opened<S: Start + Drop>(
+    rt: &HostRuntime,
+    path: Option<&Text>,
+    start: S,
+) -> Result<Opened<MemStore, FileStore<FileFrom<S>>>, u8> {
+    match path {
+        Some(path) => match Connection::open_from(rt, path.as_str(), false, start) {
+            Ok(conn) => Ok(Opened::File(conn)),
+            Err(_) => Err(KEEPER_FAILED),
+        },
+        None => match Connection::open_in_memory(rt.alloc()) {
+            Ok(conn) => Ok(Opened::Memory(conn)),
+            Err(_) => Err(NO_MEMORY),
+        },
+    }
+}
+
+/// Plays over the file of this path, or else over a database in memory.
+fn play<S: Start + Drop>(rt: &HostRuntime, path: Option<&Text>, start: S, words: &[Text]) -> u8 {
+    match opened(rt, path, start) {
+        Ok(opened) => play_by(rt, opened, words),
+        Err(status) => status,
+    }
 }
 
 /// Runs what the arguments say, or tells what they ask of the program.
@@ -93,17 +117,12 @@ fn status_of(rt: &HostRuntime, words: &[Text]) -> u8 {
         asked.tell(rt, "grid_keeper", USAGE);
         return 0;
     }
-    let (keeper, words) = match words {
-        [first, path, others @ ..] => {
-            if first.as_str() == "--keep" {
-                (in_file(rt, path), others)
-            } else {
-                (in_memory(rt), words)
-            }
+    match words {
+        [first, path, others @ ..] if first.as_str() == "--keep" => {
+            play(rt, Some(path), Unknown, others)
         }
-        _ => (in_memory(rt), words),
-    };
-    play(rt, keeper, words)
+        _ => play(rt, None, Unknown, words),
+    }
 }
 
 fn main(rt: HostRuntime) -> ExitCode {
