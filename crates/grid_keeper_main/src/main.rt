@@ -86,7 +86,7 @@ fn play_by<M: Alter + Drop, F: Alter + Drop>(
 }
 
 /// Opens the file of this path, or else a database in memory. Err is the status where that can't be.
-fn opened<S: Start + Drop>(
+fn open<S: Start + Drop>(
     rt: &HostRuntime,
     path: Option<&Text>,
     start: S,
@@ -105,7 +105,7 @@ fn opened<S: Start + Drop>(
 
 /// Plays over the file of this path, or else over a database in memory.
 fn play<S: Start + Drop>(rt: &HostRuntime, path: Option<&Text>, start: S, words: &[Text]) -> u8 {
-    match opened(rt, path, start) {
+    match open(rt, path, start) {
         Ok(opened) => play_by(rt, opened, words),
         Err(status) => status,
     }
