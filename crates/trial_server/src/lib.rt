@@ -1,5 +1,5 @@
-//! Trials of the running hub, which show what no clause says: that its parts run beside each other; and of the programs' arguments, with a
-//! node and a driver as their programs run them.
+//! Trials of the running hub, which show what no clause says: that its parts run beside each other; of the programs' arguments, with a
+//! node and a driver as their programs run them; and of what lies outside the hub: sockets, a line that is waited for, the loop node.
 #![tactic(auto)]
 
 #[cfg(test)]
@@ -14,6 +14,8 @@ mod held;
 mod held_gate;
 #[cfg(test)]
 mod loopback;
+#[cfg(test)]
+mod outside;
 #[cfg(test)]
 mod programs;
 #[cfg(test)]

@@ -1,7 +1,7 @@
 //! A journal that grows while it is read, and one of which a part is past.
 ghost use Rattle.std.specs.Prelude.{◌≡◌, None};
 
-use crate::log::logs::{HEAD, put_all, sink, source, status_of, words_of};
+use crate::journal::log::logs::{HEAD, put_all, sink, source, status_of, words_of};
 use grid_log::{Form, Recall, log_behind, log_lines};
 use grid_outside::{Clock, Failed, MemClock, MemSink, MemSource, Sink, Source};
 use grid_types::{Change, Entry, Moment, Text};

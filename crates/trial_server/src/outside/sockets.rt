@@ -1,6 +1,6 @@
 //! The outside over TCP.
-use crate::links::{reads, writes};
-use crate::parts::request;
+use crate::outside::links::{reads, writes};
+use crate::outside::parts::request;
 use grid_outside::{AwaitedLink, Clock, Door, ExchangeFault, Link, NodeLink, Reply};
 use grid_sockets::{TcpDoor, TcpNodes};
 use grid_types::NodeAddress;

@@ -1,5 +1,5 @@
 //! Worked lines: what is told of each entry of a history, and that nothing is told of the others.
-use crate::log::logs::{FIRST, HEAD, put_all, tells};
+use crate::journal::log::logs::{FIRST, HEAD, put_all, tells};
 use std::alloc::Global;
 
 /// The entries of a history, each with what is told of it.

@@ -1,6 +1,6 @@
 //! Connections to a node that are kept, by what the node sees of them.
-use crate::sockets::{Told, address_of, empty_address, listener};
-use crate::tcp_nodes::{Asking, Timed, are_given_up, begun, comes_so, rests};
+use crate::outside::sockets::{Told, address_of, empty_address, listener};
+use crate::outside::tcp_nodes::{Asking, Timed, are_given_up, begun, comes_so, rests};
 use grid_outside::Gate;
 use grid_sockets::TcpGate;
 use grid_types::NodeAddress;

@@ -1,8 +1,8 @@
 //! Lines over TCP, and how they end.
-use crate::lines::line_reads_none;
-use crate::links::writes;
-use crate::sockets::{bound, connected, is_unbound, listener, next_link};
-use crate::tcp_nodes::Timed;
+use crate::outside::lines::line_reads_none;
+use crate::outside::links::writes;
+use crate::outside::sockets::{bound, connected, is_unbound, listener, next_link};
+use crate::outside::tcp_nodes::Timed;
 use grid_outside::{AwaitedLink, Door, Gate, Line, Reading};
 use grid_sockets::{TcpDoor, TcpLine};
 use mio::net;

@@ -1,6 +1,6 @@
 //! Lines that are waited for.
-use crate::links::{fails_to_read, reads, writes};
-use crate::parts::{link, numbers};
+use crate::outside::links::{fails_to_read, reads, writes};
+use crate::outside::parts::{link, numbers};
 use grid_outside::{AwaitedLink, Line, MemGate, MemLine, Reading};
 use grid_types::NoMemory;
 use std::alloc::Global;

@@ -1,8 +1,8 @@
 //! Exchanges over TCP of which no call waits.
 ghost use Rattle.std.specs.Prelude.{None};
 
-use crate::parts::request;
-use crate::sockets::{ROWS, Told, address_of, answers_once, came_so, listener};
+use crate::outside::parts::request;
+use crate::outside::sockets::{ROWS, Told, address_of, answers_once, came_so, listener};
 use grid_outside::{ExchangeFault, Gate, NodeLine, Reply};
 use grid_sockets::TcpGate;
 use grid_types::NodeAddress;

@@ -1,5 +1,5 @@
 //! Clients that come all at once.
-use crate::sockets::bound;
+use crate::outside::sockets::bound;
 use grid_sockets::TcpDoor;
 use std::alloc::{AllocGlobal, Global};
 use std::net::{Ipv4Addr, Net, SocketAddr, TcpListener, TcpStream};

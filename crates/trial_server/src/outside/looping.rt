@@ -2,7 +2,7 @@
 ghost use Rattle.std.specs.Prelude.{◌≡◌, true, IfOk};
 ghost use Rattle.loop_node.specs.Sizes.{short_texts};
 
-use crate::parts::{is, request};
+use crate::outside::parts::{is, request};
 use grid_types::{NoMemory, Text};
 use http_frames::{NodeReply, NodeRequest};
 use loop_node::LoopNode;

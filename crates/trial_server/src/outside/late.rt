@@ -1,6 +1,6 @@
 //! A start that takes longer than it may.
-use crate::sockets::{address_of, listener};
-use crate::tcp_nodes::{Asking, Timed, is_given_up, rests};
+use crate::outside::sockets::{address_of, listener};
+use crate::outside::tcp_nodes::{Asking, Timed, is_given_up, rests};
 use grid_outside::{Gate, NodeLine};
 use grid_sockets::TcpGate;
 use grid_types::NodeAddress;

@@ -1,5 +1,5 @@
 //! The metrics and the page of a worked history.
-use crate::log::logs::{HEAD, put_all, tells};
+use crate::journal::log::logs::{HEAD, put_all, tells};
 use std::alloc::Global;
 
 /// A session is created after 0.9 s. A minute later three requests come. A start for the second of them fails; one for the third is

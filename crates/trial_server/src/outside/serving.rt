@@ -1,6 +1,6 @@
 //! A node in memory over one connection.
-use crate::looping::node;
-use crate::parts::link;
+use crate::outside::looping::node;
+use crate::outside::parts::link;
 use grid_outside::MemLink;
 use grid_types::NoMemory;
 use loop_node::{LoopNode, NodeFault, serve_node};

@@ -1,7 +1,7 @@
 //! Journals in memory, and the verdict on one.
 ghost use Rattle.std.specs.Prelude.{◌<◌};
 
-use crate::entries::{HEAD, HISTORY};
+use crate::journal::entries::{HEAD, HISTORY};
 use grid_check::{CheckFault, Verdict, check};
 use grid_outside::{MemSource, Source};
 use grid_types::Bytes;

@@ -1,6 +1,6 @@
 //! Verdicts on small journals.
-use crate::entries::{HEAD, HISTORY};
-use crate::plays::{front_of, verdict};
+use crate::journal::entries::{HEAD, HISTORY};
+use crate::journal::plays::{front_of, verdict};
 use grid_check::Verdict;
 use std::alloc::Global;
 

@@ -1,5 +1,5 @@
 //! How a log ends.
-use crate::log::logs::{FIRST, Run, goes};
+use crate::journal::log::logs::{FIRST, Run, goes};
 use std::alloc::Global;
 
 /// The journal of a suspicion that is over, of which nothing is told: 57 bytes are the head, 21 the entry. Behind it stand nine bytes

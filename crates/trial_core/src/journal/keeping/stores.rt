@@ -3,7 +3,7 @@ ghost use Rattle.std.specs.Prelude.{◌≡◌, IfOk};
 ghost use Rattle.grid_types.specs.Config.{IsValid};
 ghost use Rattle.hub_cell.specs.Passes.{IsOf};
 
-use crate::keeping::failing::{play, verdict};
+use crate::journal::keeping::failing::{play, verdict};
 use grid_check::Verdict;
 use grid_ledger::GridLedger;
 use grid_opening::Ender;

@@ -1,5 +1,5 @@
 //! A hub that goes on from a front of a journal, wherever that ends.
-use crate::plays::{front_of, journal, verdict};
+use crate::journal::plays::{front_of, journal, verdict};
 use grid_check::{Journal, Verdict, read_in};
 use grid_ledger::NoListener;
 use grid_opening::{NoEnder, Opening, Settled};
