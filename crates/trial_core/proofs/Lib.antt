@@ -1,3 +1,5 @@
 mod ListLemmas
 mod PlainLemmas
 mod CostLemmas
+mod TurnLemmas
+mod WayLemmas

@@ -1,5 +1,6 @@
 //! Plays of the hub of one caller, what a dispatch compares in worked cases, and calls with memory refused in turn; worked cases of the
-//! rules below it; and its journals: simulations, their check, their log, what they tell of a farm, and a hub that keeps its own.
+//! rules below it; starts carried to their ends; and its journals: simulations, their check, their log, what they tell of a farm, and a
+//! hub that keeps its own.
 #![tactic(auto)]
 
 #[cfg(test)]
@@ -12,3 +13,5 @@ mod plays;
 mod refused_memory;
 #[cfg(test)]
 mod rules;
+#[cfg(test)]
+mod starts;

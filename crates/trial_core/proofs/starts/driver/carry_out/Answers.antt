@@ -1,5 +1,5 @@
-use Rattle.trial_starts.proofs.WayLemmas.{way_start, way_on}
-use Rattle.trial_starts.proofs.driver.carry_out.Goals as goal
+use Rattle.trial_core.proofs.WayLemmas.{way_start, way_on}
+use Rattle.trial_core.proofs.starts.driver.carry_out.Goals as goal
 
 pub turns-init : goal.turns-init
 turns-init g c = record {

@@ -1,6 +1,6 @@
 use Rattle.hub_core.specs.HubView.{past}
-use Rattle.trial_starts.specs.Carried.{IsGoodTicket}
-use Rattle.trial_starts.proofs.tests.settle.Given as goal
+use Rattle.trial_core.specs.Carried.{IsGoodTicket}
+use Rattle.trial_core.proofs.starts.tests.settle.Given as goal
 
 -- the request waits on
 abbrev pub invariant-loop : goal.invariant-loop

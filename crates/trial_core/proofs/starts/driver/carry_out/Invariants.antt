@@ -1,7 +1,7 @@
 use Rattle.std.proofs.Common.{◌≡◌, true}
 use Rattle.node_client.specs.Carrying.{is_fresh, work}
-use Rattle.trial_starts.specs.Carried.{world_of, UnderWay}
-use Rattle.trial_starts.proofs.driver.carry_out.Given as goal
+use Rattle.trial_core.specs.Carried.{world_of, UnderWay}
+use Rattle.trial_core.proofs.starts.driver.carry_out.Given as goal
 
 -- the start stands for the steps by which the world went on
 abbrev pub invariant-turns : goal.invariant-turns

@@ -2,9 +2,9 @@
 ghost use Rattle.std.specs.Prelude.{◌≡◌, true, IfOk};
 ghost use Rattle.grid_types.specs.Permitted.{is_well_sized};
 ghost use Rattle.hub_core.specs.HubView.{past};
-ghost use Rattle.trial_starts.specs.Carried.{IsGoodTicket};
+ghost use Rattle.trial_core.specs.Carried.{IsGoodTicket};
 
-use crate::carry_out;
+use crate::starts::carry_out;
 use caps_merge::process;
 use grid_outside::{Clock, Exchange, MemClock, MemNodes, NodeReply, Reply};
 use grid_types::{

@@ -14,7 +14,7 @@ use Rattle.node_client.specs.Runs.{Runs, Exchanges, Timed}
 use Rattle.node_client.specs.RunLaws.{runs_more, exchanges_more, timed_more}
 use Rattle.node_client.specs.Places.{Place, at_start, at_bind, at_return, at_fail, at_quit, at_free, at_end, IsGoodAt, gives_up_at}
 use Rattle.node_client.specs.Carrying.{Stands, IsNew, IsFirst}
-use Rattle.trial_starts.specs.Carried.{World, IsSound, Went, IsUnder, Turned, UnderWay, Carried}
+use Rattle.trial_core.specs.Carried.{World, IsSound, Went, IsUnder, Turned, UnderWay, Carried}
 
 module _ {N : Type 0} (gives : N → List ℕ → Ask → Came → N → Type 0) where
   went_none : (w : World N) → Went gives w [] w

@@ -3,7 +3,7 @@ ghost use Rattle.std.specs.Prelude.{◌≡◌, ◌<◌, true, Some, List, ℕ, i
 ghost use Rattle.hub_core.specs.HubView.{past};
 ghost use Rattle.node_client.specs.Places.{at_start, IsGoodAt};
 ghost use Rattle.node_client.specs.Carrying.{is_fresh, work};
-ghost use Rattle.trial_starts.specs.Carried.{world_of, IsUnder, Turned, Carried};
+ghost use Rattle.trial_core.specs.Carried.{world_of, IsUnder, Turned, Carried};
 
 use grid_outside::{Clock, NodeLink};
 use hub_core::{LocalHub, Reservation};

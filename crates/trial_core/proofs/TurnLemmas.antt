@@ -30,7 +30,7 @@ use Rattle.node_client.specs.Start.{Refuses, late, node_gone, duplicate, mismatc
 use Rattle.node_client.specs.Runs.{Runs, Exchanges, Timed}
 use Rattle.node_client.specs.Places.{Place, at_start, at_bind, at_return, at_fail, at_quit, at_free, at_end, Wanted, to_ask, to_call, over, Shows, wanted_at, made, asked_step, called_step, IsAsk, Fits, Moves, named, failed_at_node, was_bound, to_quit, to_free, found_no_memory, was_returned, was_quit, gave_up, was_freed, IsGoodAt}
 use Rattle.node_client.specs.Carrying.{Stands, HandsOut, Feeds, Moved, Finished, FinishedAt, Freed}
-use Rattle.trial_starts.specs.Carried.{World, world_of, IsUnder, IsOver, Turned}
+use Rattle.trial_core.specs.Carried.{World, world_of, IsUnder, IsOver, Turned}
 
 -- ---- exchanges
 

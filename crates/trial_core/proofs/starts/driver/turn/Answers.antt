@@ -4,8 +4,8 @@ use Rattle.hub_core.specs.Replies.{binding_reply, failing_reply}
 use Rattle.hub_core.specs.HubView.{past}
 use Rattle.node_client.specs.declared.wants.CarryAnswer.TheVariants as answers
 use Rattle.node_client.specs.TurnLaws.{told_bind, told_fail, told_free}
-use Rattle.trial_starts.proofs.TurnLemmas.{node_turn, call_turn, good_bind, good_fail, good_freed}
-use Rattle.trial_starts.proofs.driver.turn.Goals as goal
+use Rattle.trial_core.proofs.TurnLemmas.{node_turn, call_turn, good_bind, good_fail, good_freed}
+use Rattle.trial_core.proofs.starts.driver.turn.Goals as goal
 
 pub returns-in-Node-clause-turned : goal.returns-in-Node-clause-turned
 returns-in-Node-clause-turned g c =
