@@ -6,7 +6,7 @@ ghost use Rattle.row_keeper.specs.declared.keeper.KeepFault.TheVariants as keep;
 use crate::faults::fault_of;
 use grid_types::Bytes;
 use row_keeper::{KeepFault, Keeper};
-use sqlite::{Alter, Connection, Statement, params};
+use sqlite::{Alter, Connection, Row, Statement, params};
 use std::alloc::Global;
 
 const INSERT: &str = "INSERT INTO turns (number, body) VALUES (?1, ?2)";
@@ -28,13 +28,18 @@ pub struct SqlKeeper<S: Alter> {
     faults: u64,
 }
 
-/// How many rows there are in the table. Failed also where their numbers are not those from 0 on, without a hole: then
-/// rows are missing, and those that are there say nothing.
-fn count_rows<S: Alter>(conn: &mut Connection<S>) -> Result<u64, KeepFault> {
-    let row = conn.query_row(COUNT, &[]).map_err(fault_of)?;
-    let count: i64 = row.get(0).map_err(fault_of)?;
-    let first: i64 = row.get(1).map_err(fault_of)?;
-    let last: i64 = row.get(2).map_err(fault_of)?;
+fn number_at(row: &Row, column: usize) -> Result<i64, KeepFault> {
+    match row.get(column) {
+        Ok(number) => Ok(number),
+        Err(error) => Err(fault_of(error)),
+    }
+}
+
+/// How many rows there are by what the database counted.
+fn counted(row: &Row) -> Result<u64, KeepFault> {
+    let count = number_at(row, 0)?;
+    let first = number_at(row, 1)?;
+    let last = number_at(row, 2)?;
     let Ok(rows) = u64::try_from(count) else {
         return Err(KeepFault::Failed);
     };
@@ -42,6 +47,15 @@ fn count_rows<S: Alter>(conn: &mut Connection<S>) -> Result<u64, KeepFault> {
         return Err(KeepFault::Failed);
     }
     Ok(rows)
+}
+
+/// How many rows there are in the table. Failed also where their numbers are not those from 0 on, without a hole: then
+/// rows are missing, and those that are there say nothing.
+fn count_rows<S: Alter>(conn: &mut Connection<S>) -> Result<u64, KeepFault> {
+    match conn.query_row(COUNT, &[]) {
+        Ok(row) => counted(&row),
+        Err(error) => Err(fault_of(error)),
+    }
 }
 
 /// What a keeper needs of its connection: both statements, and how many rows there are.
@@ -67,6 +81,13 @@ fn insert_row<S: Alter>(
     }
 }
 
+fn body_of(row: &Row) -> Result<Vec<u8>, KeepFault> {
+    match row.get::<Vec<u8>>(0) {
+        Ok(body) => Ok(body),
+        Err(error) => Err(fault_of(error)),
+    }
+}
+
 fn select_row<S: Alter>(
     conn: &mut Connection<S>,
     select: &Statement,
@@ -75,12 +96,8 @@ fn select_row<S: Alter>(
     let Ok(number) = i64::try_from(number) else {
         return Err(KeepFault::Memory);
     };
-    let row = match select.query_row(conn, params![number]) {
-        Ok(row) => row,
-        Err(error) => return Err(fault_of(error)),
-    };
-    match row.get::<Vec<u8>>(0) {
-        Ok(body) => Ok(body),
+    match select.query_row(conn, params![number]) {
+        Ok(row) => body_of(&row),
         Err(error) => Err(fault_of(error)),
     }
 }
