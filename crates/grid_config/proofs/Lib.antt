@@ -1,1 +1,4 @@
+pub mod FaultLemmas
 mod NameLemmas
+pub mod OrderLemmas
+pub mod ReadingLemmas

@@ -1,7 +1,7 @@
 -- That words name one program at most, and how a node may end.
 use Rattle.std.proofs.Common.{◌≡◌, ◌⊎◌, ℕ, List, [], length, get_or, refl, sym, ap, ◌∙◌, arith, inl, inr}
-use Rattle.config_keys.specs.declared.rows.Mode.{Mode}
-use Rattle.config_keys.specs.declared.rows.Mode.TheVariants as mode
+use Rattle.grid_config.specs.declared.rows.Mode.{Mode}
+use Rattle.grid_config.specs.declared.rows.Mode.TheVariants as mode
 use Rattle.hub_server.specs.Statuses.{MayEnd}
 use Rattle.hub_server.specs.declared.begins.Unbegun.{Unbegun}
 use Rattle.grid_config.specs.Servers.{IsNamed}

@@ -1,6 +1,6 @@
 -- What was read of an input.
 use Rattle.std.specs.Prelude.{◌≡◌, ◌<◌, ◌≤◌, ◌+◌, ℕ, Bool, true, false, List, ◌++◌, length}
-use Rattle.config_text.specs.declared.reading.TheConstants.{MOST_TEXT_BYTES}
+use Rattle.grid_config.specs.declared.reading.TheConstants.{MOST_TEXT_BYTES}
 use Rattle.grid_outside.specs.Counts.{Rose}
 use Rattle.grid_outside.specs.Told.{Gains, SourceView}
 

@@ -1,9 +1,9 @@
 -- What a run by a configuration is, whatever program it runs.
 use Rattle.std.specs.Prelude.{◌≡◌, ◌⊎◌, ℕ, List, Result, Ok, Err}
-use Rattle.config_text.specs.Configured.{Says}
-use Rattle.config_keys.specs.Rows.{Row}
-use Rattle.config_keys.specs.declared.fault.ConfigFault.{ConfigFault}
-use Rattle.config_keys.specs.declared.fault.ConfigFault.TheVariants as fault
+use Rattle.grid_config.specs.Configured.{Says}
+use Rattle.grid_config.specs.Rows.{Row}
+use Rattle.grid_config.specs.declared.fault.ConfigFault.{ConfigFault}
+use Rattle.grid_config.specs.declared.fault.ConfigFault.TheVariants as fault
 use Rattle.grid_outside.specs.Counts.{Rose}
 use Rattle.grid_outside.specs.Told.{SourceView}
 use Rattle.grid_config.specs.Input.{HasRead}

@@ -1,7 +1,7 @@
 -- What the status of a hub's or a node's program stands for.
 use Rattle.std.specs.Prelude.{◌≡◌, ◌≤◌, ◌⊎◌, ℕ, List, [], ◌∷◌, Some, codes, IfSome, IsSome}
-use Rattle.config_keys.specs.declared.rows.Mode.{Mode}
-use Rattle.config_keys.specs.declared.rows.Mode.TheVariants as mode
+use Rattle.grid_config.specs.declared.rows.Mode.{Mode}
+use Rattle.grid_config.specs.declared.rows.Mode.TheVariants as mode
 use Rattle.grid_outside.specs.Counts.{Rose}
 use Rattle.grid_outside.specs.Told.{DoorView}
 use Rattle.hub_server.specs.Statuses.{MayEnd}

@@ -1,15 +1,15 @@
 //! A driver behind a hub, by a configuration.
 ghost use Rattle.std.specs.Prelude.{◌≡◌, ◌⊎◌, ℕ, List, Result};
-ghost use Rattle.config_text.specs.Configured.{Says};
-ghost use Rattle.config_keys.specs.Rows.{attach_rows};
-ghost use Rattle.config_keys.specs.declared.fault.ConfigFault.{ConfigFault};
+ghost use Rattle.grid_config.specs.Configured.{Says};
+ghost use Rattle.grid_config.specs.Rows.{attach_rows};
+ghost use Rattle.grid_config.specs.declared.fault.ConfigFault.{ConfigFault};
 ghost use Rattle.grid_outside.specs.Counts.{Rose};
 ghost use Rattle.grid_config.specs.Driver.{HasLooked, MayAttach, refusal_status};
 ghost use Rattle.grid_config.specs.Ran.{Ends, Ran};
 
 use crate::input::{InputFault, read_text};
+use crate::reading::attach_config_words;
 use crate::statuses::{NO_MEMORY, READ_FAILED, fault_status};
-use config_text::attach_config_words;
 use grid_attach::attach_main;
 use grid_outside::{Clock, NodeLink, Source};
 use grid_types::Text;

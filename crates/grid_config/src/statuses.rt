@@ -2,7 +2,7 @@
 ghost use Rattle.std.specs.Prelude.{◌≡◌};
 ghost use Rattle.grid_config.specs.Ran.{fault_status};
 
-use config_text::ConfigFault;
+use crate::fault::ConfigFault;
 
 /// Other words than the name of a program.
 pub(crate) const OTHER_WORDS: u8 = 8;

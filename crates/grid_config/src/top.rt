@@ -1,17 +1,18 @@
 //! Hub and node by a configuration.
 ghost use Rattle.std.specs.Prelude.{◌≡◌, ◌↔◌, ◌⊎◌, ℕ, List, Result, IfSome, IfNone};
-ghost use Rattle.config_text.specs.Configured.{Says};
-ghost use Rattle.config_keys.specs.Rows.{rows_of};
-ghost use Rattle.config_keys.specs.declared.fault.ConfigFault.{ConfigFault};
-ghost use Rattle.config_keys.specs.declared.rows.Mode.{Mode};
+ghost use Rattle.grid_config.specs.Configured.{Says};
+ghost use Rattle.grid_config.specs.Rows.{rows_of};
+ghost use Rattle.grid_config.specs.declared.fault.ConfigFault.{ConfigFault};
+ghost use Rattle.grid_config.specs.declared.rows.Mode.{Mode};
 ghost use Rattle.grid_outside.specs.Counts.{Rose};
 ghost use Rattle.hub_server.specs.Statuses.{MayNotBeNew};
 ghost use Rattle.grid_config.specs.Ran.{Ends, Ran};
 ghost use Rattle.grid_config.specs.Servers.{IsNamed, MayServe, NameOne};
 
 use crate::input::{InputFault, read_text};
+use crate::reading::config_words;
+use crate::rows::Mode;
 use crate::statuses::{NO_MEMORY, OTHER_WORDS, READ_FAILED, fault_status};
-use config_text::{Mode, config_words};
 use grid_node::node_main;
 use grid_outside::{Door, Source};
 use grid_types::Text;

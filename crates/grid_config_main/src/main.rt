@@ -1,10 +1,9 @@
 //! A hub, a node, or a driver behind a hub, by a configuration on standard input.
 #![tactic(auto)]
 
-use config_keys::{Row, attach_rows, reason_of, rows_of};
 use grid_config::{
-    ConfigFault, KeptInput, Mode, WordList, attach_config_main, attach_config_words,
-    config_main_by, config_words,
+    ConfigFault, KeptInput, Mode, Row, WordList, attach_config_main, attach_config_words,
+    attach_rows, config_main_by, config_words, reason_of, rows_of,
 };
 use grid_console::{Asked, NoWords, ToldBind, ToldHub, ToldNodes, words};
 use grid_outside::{Clock, Door, NodeLink, Source, StandardInput};

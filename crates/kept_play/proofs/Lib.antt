@@ -1,3 +1,4 @@
 mod PlaceLemmas
 mod StatusLemmas
 mod PlayLemmas
+mod ServeLemmas

@@ -24,9 +24,9 @@ use Rattle.grid_keeper.specs.Replays.{IsImage}
 use Rattle.grid_keeper.specs.Runs.{Runs, no_call, room_made, call_kept}
 use Rattle.grid_keeper.specs.Settling.{NoTicket, NoneHeld, QuitsOn}
 use Rattle.grid_keeper.specs.declared.kept_hub.KeptHub.{KeptHub}
-use Rattle.kept_driver.specs.Serving.{KeptAll, KeptTo, conn_of}
-use Rattle.kept_driver.specs.declared.serving.KeptEnd.{KeptEnd}
-use Rattle.kept_driver.specs.declared.serving.KeptEnd.TheVariants as ends
+use Rattle.kept_play.specs.Serving.{KeptAll, KeptTo, conn_of}
+use Rattle.kept_play.specs.declared.serving.KeptEnd.{KeptEnd}
+use Rattle.kept_play.specs.declared.serving.KeptEnd.TheVariants as ends
 use Rattle.kept_play.specs.Kept.{KeptOver, PlaysOrStops, RunsOrBreaks, RunsSettled, ServedOn, ServedOrStops, TellsKept, end_status}
 use Rattle.kept_play.specs.Placing.{Placed}
 use Rattle.kept_play.proofs.StatusLemmas.{not_both, tells_conn, tells_stop}

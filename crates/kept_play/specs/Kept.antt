@@ -26,8 +26,8 @@ use Rattle.grid_keeper.specs.declared.kept_hub.KeptFault.{KeptFault}
 use Rattle.grid_keeper.specs.declared.kept_hub.KeptFault.TheVariants as faults
 use Rattle.grid_keeper.specs.declared.opening.OpenFault.{OpenFault}
 use Rattle.grid_keeper.specs.declared.opening.OpenFault.TheVariants as opens
-use Rattle.kept_driver.specs.declared.serving.KeptEnd.{KeptEnd}
-use Rattle.kept_driver.specs.declared.serving.KeptEnd.TheVariants as ends
+use Rattle.kept_play.specs.declared.serving.KeptEnd.{KeptEnd}
+use Rattle.kept_play.specs.declared.serving.KeptEnd.TheVariants as ends
 use Rattle.kept_play.specs.Placing.{Placed}
 
 -- ---- statuses

@@ -13,12 +13,12 @@ ghost use Rattle.kept_play.specs.Kept.{IsStop, PlaysOrStops, RunsOrBreaks, RunsS
 ghost use Rattle.kept_play.specs.Placing.{Placed};
 
 use crate::places::place_all;
+use crate::serving::serve_kept;
 use crate::statuses::{NO_MEMORY, end_status, fault_status};
 use grid_keeper::{KeptHub, Left, nothing_was_called, settle, ways_join};
 use grid_outside::{MemClock, Sink, Source};
 use grid_play::{Joined, served_is_a_talk};
 use grid_types::{Moment, NodeNo};
-use kept_driver::serve_kept;
 use loop_node::LoopNodes;
 use play_words::PlayNode;
 use row_keeper::Keeper;

@@ -2,9 +2,9 @@
 ghost use Rattle.std.specs.Prelude.{◌≡◌};
 ghost use Rattle.kept_play.specs.Kept.{end_status, fault_status, open_status};
 
+use crate::serving::KeptEnd;
 use grid_keeper::{KeptFault, OpenFault};
 use grid_play::status_of;
-use kept_driver::KeptEnd;
 use local_driver::Served;
 
 /// The words do not fit.

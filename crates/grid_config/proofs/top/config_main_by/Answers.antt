@@ -1,6 +1,6 @@
 use Rattle.std.proofs.Common.{◌≡◌, subst}
-use Rattle.config_keys.specs.Rows.{rows_of}
-use Rattle.config_keys.specs.declared.rows.Mode.{Mode}
+use Rattle.grid_config.specs.Rows.{rows_of}
+use Rattle.grid_config.specs.declared.rows.Mode.{Mode}
 use Rattle.grid_config.specs.Ran.{Ran}
 use Rattle.grid_config.specs.Servers.{MayServe}
 use Rattle.grid_config.proofs.NameLemmas.{one_name}

@@ -1,5 +1,5 @@
 use Rattle.std.proofs.Common.{sym, subst}
-use Rattle.config_keys.specs.declared.rows.Mode.{Mode}
+use Rattle.grid_config.specs.declared.rows.Mode.{Mode}
 use Rattle.grid_config.specs.Servers.{MayServe}
 use Rattle.grid_config.proofs.NameLemmas.{node_ends}
 use Rattle.grid_config.proofs.top.run_words.Goals as goal

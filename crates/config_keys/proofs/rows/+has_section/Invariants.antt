@@ -1,5 +1,0 @@
-use Rattle.std.proofs.Common.{length}
-use Rattle.config_keys.proofs.rows.+has_section.Given as goal
-
-abbrev pub decreases-has_section : goal.decreases-has_section
-decreases-has_section l = length l.rows.now

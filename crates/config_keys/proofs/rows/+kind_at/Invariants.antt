@@ -1,5 +1,0 @@
-use Rattle.std.proofs.Common.{length}
-use Rattle.config_keys.proofs.rows.+kind_at.Given as goal
-
-abbrev pub decreases-kind_at : goal.decreases-kind_at
-decreases-kind_at l = length l.rows.now
