@@ -1,7 +1,8 @@
 //! Texts, and what each says: its words, or what is wrong with it.
 use crate::examples::{ATTACH_FILE, HUB_FILE, NODE_FILE};
 use grid_config::{
-    ConfigFault, Mode, Row, WordList, attach_config_words, attach_rows, config_words, reason_of, rows_of,
+    ConfigFault, Mode, Row, WordList, attach_config_words, attach_rows, config_words, reason_of,
+    rows_of,
 };
 use grid_types::Text;
 use std::alloc::Global;
