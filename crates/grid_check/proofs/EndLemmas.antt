@@ -7,8 +7,8 @@ use Rattle.grid_types.specs.declared.entry.Entry.{Entry}
 use Rattle.grid_types.specs.History.{history_of}
 use Rattle.grid_outside.specs.Counts.{Rose}
 use Rattle.grid_outside.specs.Told.{SinkView, SourceView}
-use Rattle.grid_check.specs.declared.verdict.Verdict.{Verdict}
-use Rattle.grid_check.specs.declared.verdict.Verdict.TheVariants as verdict
+use Rattle.journal_verdicts.specs.declared.verdict.Verdict.{Verdict}
+use Rattle.journal_verdicts.specs.declared.verdict.Verdict.TheVariants as verdict
 use Rattle.grid_check.specs.Running.{CheckEnds, TellEnds, verdict_status}
 use Rattle.hub_core.specs.HubView.{HubView, past}
 use Rattle.grid_simulate.specs.declared.summary.Summary.{Summary}

@@ -1,4 +1,2 @@
-mod CheckLemmas
-mod VerdictLemmas
 mod WriteLemmas
 mod EndLemmas

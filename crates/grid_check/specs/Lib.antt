@@ -1,7 +1,3 @@
-pub mod Feeds
-pub mod Verdicts
-pub mod Checks
-pub mod ReadIn
 pub mod Running
 pub mod Writes
 pub mod Making

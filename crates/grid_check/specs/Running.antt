@@ -2,9 +2,9 @@
 use Rattle.std.specs.Prelude.{◌≡◌, ℕ, true, List, ◌++◌, codes, decimal}
 use Rattle.grid_outside.specs.Counts.{Rose}
 use Rattle.grid_outside.specs.Told.{Gains, SinkView, SourceView, TookFront}
-use Rattle.grid_check.specs.declared.verdict.Verdict.{Verdict}
-use Rattle.grid_check.specs.declared.verdict.Verdict.TheVariants as verdict
-use Rattle.grid_check.specs.Verdicts.{IsVerdict, tells_end}
+use Rattle.journal_verdicts.specs.declared.verdict.Verdict.{Verdict}
+use Rattle.journal_verdicts.specs.declared.verdict.Verdict.TheVariants as verdict
+use Rattle.journal_verdicts.specs.Verdicts.{IsVerdict, tells_end}
 
 -- the line that tells a verdict
 abbrev pub verdict_line : Verdict → List ℕ

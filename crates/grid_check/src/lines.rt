@@ -2,9 +2,9 @@
 ghost use Rattle.std.specs.Prelude.{◌≡◌, ◌++◌, IfOk, decimal};
 ghost use Rattle.grid_check.specs.Running.{verdict_line, verdict_status};
 
-use crate::verdict::Verdict;
 use grid_types::{NoMemory, Text};
 use itoa::Buffer;
+use journal_verdicts::Verdict;
 use std::alloc::Global;
 
 /// A text with a decimal number in its midst.

@@ -4,10 +4,9 @@ ghost use Rattle.grid_outside.specs.Counts.{HasCause};
 ghost use Rattle.grid_outside.specs.Told.{Gains};
 ghost use Rattle.grid_check.specs.Running.{CheckEnds, TellEnds};
 
-use crate::checking::check;
 use crate::lines::{line_of, status_of};
-use crate::verdict::{CheckFault, Verdict};
 use grid_outside::{Sink, Source, write_all};
+use journal_verdicts::{CheckFault, Verdict, check};
 use std::alloc::Global;
 
 /// A read failed.

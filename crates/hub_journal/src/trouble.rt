@@ -1,8 +1,8 @@
 //! Why a hub does not go on from its journal, in words for whoever started it.
 
-use grid_check::Verdict;
 use grid_opening::OpeningFault;
 use hub_store::HubOption;
+use journal_verdicts::Verdict;
 use std::{fmt, io};
 
 /// Why a hub does not go on from its journal.

@@ -18,11 +18,11 @@ use Rattle.grid_journal.specs.EntryReads.{BeginsEntry}
 use Rattle.grid_journal.specs.Spelled.{head_bytes, journal_bytes}
 use Rattle.grid_outside.specs.Counts.{Rose}
 use Rattle.grid_outside.specs.Told.{Gains}
-use Rattle.grid_check.specs.declared.found.Journal.{Journal}
-use Rattle.grid_check.specs.declared.verdict.Verdict.{Verdict}
-use Rattle.grid_check.specs.declared.verdict.Verdict.TheVariants as verdict
-use Rattle.grid_check.specs.ReadIn as of_check
-use Rattle.grid_check.specs.Verdicts.{IsCutEntry, IsCutHead, IsVerdict, Leaves, LeavesNone, Says, tells_end}
+use Rattle.journal_verdicts.specs.declared.found.Journal.{Journal}
+use Rattle.journal_verdicts.specs.declared.verdict.Verdict.{Verdict}
+use Rattle.journal_verdicts.specs.declared.verdict.Verdict.TheVariants as verdict
+use Rattle.journal_verdicts.specs.ReadIn as of_check
+use Rattle.journal_verdicts.specs.Verdicts.{IsCutEntry, IsCutHead, IsVerdict, Leaves, LeavesNone, Says, tells_end}
 use Rattle.journal_keeper.specs.declared.keeping.Keeping.{Keeping}
 use Rattle.journal_keeper.specs.Keepings.{faults_of, kept_by}
 use Rattle.hub_core.specs.declared.hub.HubCore.{HubCore}

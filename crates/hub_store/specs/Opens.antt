@@ -7,8 +7,8 @@ use Rattle.grid_types.specs.History.{clock, next_node, next_request}
 use Rattle.grid_outside.specs.Counts.{Rose}
 use Rattle.grid_journal.specs.HeadReads.{HeadRead}
 use Rattle.grid_journal.specs.declared.head.HeadStep.TheVariants as step
-use Rattle.grid_check.specs.declared.verdict.Verdict.{Verdict}
-use Rattle.grid_check.specs.Verdicts.{Says, tells_end}
+use Rattle.journal_verdicts.specs.declared.verdict.Verdict.{Verdict}
+use Rattle.journal_verdicts.specs.Verdicts.{Says, tells_end}
 use Rattle.journal_keeper.specs.declared.keeping.Keeping.{Keeping}
 use Rattle.journal_keeper.specs.Keepings.{faults_of}
 use Rattle.hub_core.specs.declared.hub.HubCore.{HubCore}

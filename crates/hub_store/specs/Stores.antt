@@ -9,10 +9,10 @@ use Rattle.grid_ledger.specs.Open.{NoRequest, NoSlot}
 use Rattle.grid_journal.specs.Spelled.{journal_bytes}
 use Rattle.grid_replay.specs.declared.replay.Replay.{Replay}
 use Rattle.grid_replay.specs.Replays.{Shows}
-use Rattle.grid_check.specs.declared.found.Journal.{Journal}
-use Rattle.grid_check.specs.declared.verdict.Verdict.{Verdict}
-use Rattle.grid_check.specs.declared.verdict.Verdict.TheVariants as verdict
-use Rattle.grid_check.specs.Verdicts.{IsJournal, LeavesNone}
+use Rattle.journal_verdicts.specs.declared.found.Journal.{Journal}
+use Rattle.journal_verdicts.specs.declared.verdict.Verdict.{Verdict}
+use Rattle.journal_verdicts.specs.declared.verdict.Verdict.TheVariants as verdict
+use Rattle.journal_verdicts.specs.Verdicts.{IsJournal, LeavesNone}
 
 -- The bytes, where they are told, are the journal of this legal history, and behind it nothing, or a part of one entry more. So they
 -- are of no other history.

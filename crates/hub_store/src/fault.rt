@@ -1,8 +1,8 @@
 //! Why no hub goes on from a store.
 
-use grid_check::Verdict;
 use grid_opening::OpeningFault;
 use journal_keeper::Keeping;
+use journal_verdicts::Verdict;
 
 /// What a hub is set up with, but for the first numbers that it gives.
 #[derive(Clone, Copy, Debug, PartialEq, Eq)]

@@ -1,11 +1,11 @@
 //! A hub that goes on from a front of a journal, wherever that ends.
 use crate::journal::plays::{front_of, journal, verdict};
-use grid_check::{Journal, Verdict, read_in};
 use grid_ledger::NoListener;
 use grid_opening::{NoEnder, Opening, Settled};
 use grid_outside::MemSource;
 use grid_types::{Bytes, Moment};
 use journal_keeper::{Keeper, MemKeeper};
+use journal_verdicts::{Journal, Verdict, read_in};
 use std::alloc::Global;
 
 /// What stands for the whole entries at the front of the bytes.

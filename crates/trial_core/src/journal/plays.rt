@@ -2,9 +2,9 @@
 ghost use Rattle.std.specs.Prelude.{◌<◌};
 
 use crate::journal::entries::{HEAD, HISTORY};
-use grid_check::{CheckFault, Verdict, check};
 use grid_outside::{MemSource, Source};
 use grid_types::Bytes;
+use journal_verdicts::{CheckFault, Verdict, check};
 use std::alloc::Global;
 
 /// The journal of the whole history.

@@ -1,7 +1,7 @@
 //! Verdicts on small journals.
 use crate::journal::entries::{HEAD, HISTORY};
 use crate::journal::plays::{front_of, verdict};
-use grid_check::Verdict;
+use journal_verdicts::Verdict;
 use std::alloc::Global;
 
 /// Behind the head the entry that caller 0 frees slot 0 of node 1: a slot that is free is not freed.

@@ -2,13 +2,13 @@
 ghost use Rattle.std.specs.Prelude.{◌≡◌};
 ghost use Rattle.hub_cell.specs.Passes.{IsOf};
 
-use grid_check::{Verdict, check};
 use grid_outside::MemSource;
 use grid_types::{Bytes, HubConfig, Moment, SessionId};
 use hub_cell::{Pass, SharedHub};
 use hub_core::{Binding, Ending, Enqueued, Polled, Registering};
 use hub_opening::begin;
 use journal_keeper::{Keeping, MemKeeper};
+use journal_verdicts::{Verdict, check};
 use std::alloc::Global;
 use std::sync::Wait;
 use trial_desk::{caps_of, choices_of, registration_of};

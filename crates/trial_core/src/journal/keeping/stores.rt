@@ -4,7 +4,6 @@ ghost use Rattle.grid_types.specs.Config.{IsValid};
 ghost use Rattle.hub_cell.specs.Passes.{IsOf};
 
 use crate::journal::keeping::failing::{play, verdict};
-use grid_check::Verdict;
 use grid_ledger::GridLedger;
 use grid_opening::Ender;
 use grid_replay::Replay;
@@ -14,6 +13,7 @@ use hub_core::{Binding, Enqueued, Polled, Registering, Removal};
 use hub_opening::begin;
 use hub_store::{HubOption, MemStore, StoreFault, Unopened, open_store};
 use journal_keeper::{Keeping, MemKeeper};
+use journal_verdicts::Verdict;
 use std::alloc::Global;
 use std::sync::Wait;
 use trial_desk::{caps_of, choices_of, registration_of};

@@ -1,5 +1,0 @@
-use Rattle.grid_check.proofs.VerdictLemmas.{one_verdict}
-use Rattle.grid_check.proofs.laws.texts_have_one_verdict.Goals as goal
-
-pub returns : goal.returns
-returns c = one_verdict c.one_spelling.ensures.entries c.one_spelling.ensures.heads

@@ -1,0 +1,4 @@
+pub mod Feeds
+pub mod Verdicts
+pub mod Checks
+pub mod ReadIn
