@@ -16,7 +16,7 @@ use Rattle.grid_simulate.specs.World.{simulated_config}
 use Rattle.grid_simulate.specs.Simulates.{IsSimulated}
 use Rattle.grid_check.specs.Writes.{WriteEnds}
 use Rattle.grid_check.specs.Making.{MakeEnds}
-use Rattle.grid_check.specs.Words.{IsCheck, IsMake, Fit, FitMake}
+use Rattle.grid_check.specs.Words.{IsCheck, IsMake, Fit}
 
 -- ---- the statuses of a check
 

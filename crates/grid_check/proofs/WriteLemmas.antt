@@ -6,14 +6,13 @@ use Rattle.std.proofs.lemmas.Grind.{flat_map-append}
 use Rattle.grid_types.specs.declared.config.HubConfig.{HubConfig}
 use Rattle.grid_types.specs.declared.entry.Entry.{Entry}
 use Rattle.grid_types.specs.History.{history_of, BeginsWith}
-use Rattle.grid_outside.specs.Counts.{Rose}
 use Rattle.grid_outside.specs.Told.{Gains, SinkView, TookFront}
 use Rattle.grid_outside.specs.StreamLaws.{gains_more, rose_later, none_before}
 use Rattle.grid_journal.specs.Spelled.{entry_bytes, head_bytes, journal_bytes}
 use Rattle.grid_journal.specs.Fits.{AllFit}
 use Rattle.grid_check.specs.declared.writing.Unwritten.{Unwritten}
 use Rattle.grid_check.specs.declared.writing.Unwritten.TheVariants as unwritten
-use Rattle.grid_check.specs.Writes.{IsShort, WriteEnds, Gained, Puts, StopsAt, StopsAtHead, status_of, BreaksOff}
+use Rattle.grid_check.specs.Writes.{IsShort, WriteEnds, Gained, Puts, StopsAt, StopsAtHead, status_of}
 
 -- ---- the bytes of a journal
 

@@ -1,6 +1,6 @@
 -- How a check goes on by one entry, by bytes that are read, and to a verdict.
 use Rattle.std.proofs.Common.{◌≡◌, ℕ, suc, ◌+◌, ◌-◌, ◌^◌, ◌<◌, ◌≤◌, max, min, Bool, true, false, ◌&&◌, nat_le, List, [], ◌∷◌, ◌++◌, length, drop, reverse, flat_map, codes, refl, sym, ◌∙◌, ap, subst, inr, arith, append_assoc, append-nil, length-append}
-use Rattle.std.specs.Prelude.{Option, Some, Result, Ok, Err, is_err, IfOk, OnOk}
+use Rattle.std.specs.Prelude.{Option, Some, Result, Ok, Err, is_err, OnOk}
 use Rattle.std.proofs.Math.Seq.{drop-append_seam}
 use Rattle.std.proofs.lemmas.Bool.Decides.{nat_tests}
 use Rattle.std.proofs.lemmas.List.{reverse-append}
@@ -24,15 +24,13 @@ use Rattle.journal_verdicts.specs.declared.feed.Feed.{Feed}
 use Rattle.journal_verdicts.specs.declared.checking.Checking.{Checking}
 use Rattle.journal_verdicts.specs.declared.verdict.Verdict.{Verdict}
 use Rattle.journal_verdicts.specs.declared.verdict.Verdict.TheVariants as verdict
-use Rattle.journal_verdicts.specs.declared.verdict.CheckFault.{CheckFault}
 use Rattle.journal_verdicts.specs.declared.checking.Opened.{Opened}
 use Rattle.journal_verdicts.specs.declared.checking.Opened.TheVariants as opened
 use Rattle.journal_verdicts.specs.Feeds.{waiting, Reads}
 use Rattle.journal_verdicts.specs.Verdicts.{IsJournal, Leaves, most_bytes, tells_end, IsVerdict}
 use Rattle.journal_verdicts.specs.Checks.{Told, EndsAt, HasRead, IsLeft, IsTold, IsOpened, Opens, Goes, GoesOn}
-use Rattle.journal_verdicts.specs.ReadIn.{HasJournal, IsReadIn}
+use Rattle.journal_verdicts.specs.ReadIn.{HasJournal}
 use Rattle.journal_verdicts.specs.declared.found.Journal.{Journal}
-use Rattle.journal_verdicts.specs.declared.found.ReadIn.{ReadIn}
 
 -- ---- what is told
 

@@ -1,4 +1,4 @@
-use Rattle.std.proofs.Common.{ℕ, inl, inr, subst, refl, arith, ◌≡◌, sym}
+use Rattle.std.proofs.Common.{ℕ, inl, inr, subst, refl, arith}
 use Rattle.grid_check.specs.Making.{MakeEnds}
 use Rattle.grid_check.proofs.EndLemmas.{check_not_eight, check_five, check_six, make_not_eight, make_not_five, make_six, not_both, one_number, neither}
 use Rattle.grid_check.proofs.top.check_main.Goals as goal

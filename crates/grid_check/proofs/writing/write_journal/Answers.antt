@@ -1,4 +1,4 @@
-use Rattle.std.proofs.Common.{ℕ, sym, subst, arith, ◌≡◌}
+use Rattle.std.proofs.Common.{ℕ, sym, subst, arith}
 use Rattle.grid_types.specs.History.{history_of}
 use Rattle.grid_check.specs.Writes.{WriteEnds}
 use Rattle.grid_check.proofs.WriteLemmas.{one_more, all_of_them, stops, stops_at_head}
