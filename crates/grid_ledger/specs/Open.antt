@@ -22,3 +22,11 @@ NoSlot history = (slot : SlotId) → is_open (holder history slot) ≡ false
 -- each request that was queued is taken
 abbrev pub NoRequest : List Entry → Type 0
 NoRequest history = (request : ℕ) → is_gone (place history request) ≡ true
+
+-- some slot is open
+abbrev pub SomeSlot : List Entry → Type 0
+SomeSlot history = (slot : SlotId) × (is_open (holder history slot) ≡ true)
+
+-- some request that was queued is not taken
+abbrev pub SomeRequest : List Entry → Type 0
+SomeRequest history = (request : ℕ) × (is_gone (place history request) ≡ false)

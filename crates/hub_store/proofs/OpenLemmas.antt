@@ -1,12 +1,13 @@
 -- From what a store gave to what a hub goes on from.
-use Rattle.std.proofs.Common.{◌≡◌, ◌⊎◌, inl, inr, ℕ, zero, suc, ◌+◌, ◌-◌, ◌^◌, ◌<◌, ◌≤◌, max, Bool, true, false, List, [], ◌∷◌, ◌++◌, length, take, refl, sym, ◌∙◌, ap, subst, arith, append-nil}
-use Rattle.std.specs.Prelude.{Option, None, Some, IfErr, IfOk, IfSome, Result, Ok, Err, is_some, is_none, is_err, option_map, filter, nat_lt, nat_eq}
+use Rattle.std.proofs.Common.{◌≡◌, ◌⊎◌, inl, inr, ℕ, zero, suc, ◌+◌, ◌-◌, ◌^◌, ◌<◌, ◌≤◌, max, true, false, List, [], ◌∷◌, ◌++◌, length, take, refl, sym, ◌∙◌, ap, subst, arith, append-nil}
+use Rattle.std.specs.Prelude.{Option, None, Some, IfErr, IfOk, IfSome, Result, Ok, Err, is_none, option_map, filter, nat_lt}
 use Rattle.std.proofs.lemmas.Bool.Decides.{nat_tests}
 use Rattle.std.proofs.Math.Seq.{take-append_seam}
 use Rattle.grid_types.specs.declared.config.HubConfig.{HubConfig}
 use Rattle.grid_types.specs.declared.entry.Entry.{Entry}
-use Rattle.grid_types.specs.declared.limits.TheConstants.{LAST_MOMENT}
-use Rattle.grid_types.specs.History.{clock, next_node, next_request, nodes}
+use Rattle.grid_types.specs.Config.{IsValid}
+use Rattle.grid_types.specs.declared.limits.TheConstants.{LEAST_IDLE_MS, LEAST_LAPSE_MS, LEAST_QUEUE_TIME_MS, MOST_DOWN_MS, MOST_IDLE_MS, MOST_LAPSE_MS, MOST_QUEUE_TIME_MS, MOST_REQUESTS}
+use Rattle.grid_types.specs.History.{next_node, next_request, nodes}
 use Rattle.grid_types.specs.HistoryLaws.{Known, laws}
 use Rattle.grid_types.specs.Legal.{legal}
 use Rattle.grid_types.specs.Lists.{numbers_from}
@@ -22,9 +23,9 @@ use Rattle.journal_verdicts.specs.declared.found.Journal.{Journal}
 use Rattle.journal_verdicts.specs.declared.verdict.Verdict.{Verdict}
 use Rattle.journal_verdicts.specs.declared.verdict.Verdict.TheVariants as verdict
 use Rattle.journal_verdicts.specs.ReadIn as of_check
-use Rattle.journal_verdicts.specs.Verdicts.{IsCutEntry, IsCutHead, IsVerdict, Leaves, LeavesNone, Says, tells_end}
+use Rattle.journal_verdicts.specs.Verdicts.{IsVerdict, Leaves, LeavesNone, Says, tells_end}
 use Rattle.journal_keeper.specs.declared.keeping.Keeping.{Keeping}
-use Rattle.journal_keeper.specs.Keepings.{faults_of, kept_by}
+use Rattle.journal_keeper.specs.Keepings.{kept_by}
 use Rattle.hub_core.specs.declared.hub.HubCore.{HubCore}
 use Rattle.grid_ledger.specs.declared.ledger.GridLedger.{GridLedger}
 use Rattle.grid_ledger.specs.LedgerStands.{AtMost, LedgerTells, Stands}
@@ -42,7 +43,7 @@ use Rattle.hub_store.specs.declared.fault.HubOption.{HubOption}
 use Rattle.hub_store.specs.declared.fault.StoreFault.{StoreFault}
 use Rattle.hub_store.specs.declared.fault.StoreFault.TheVariants as fault
 use Rattle.hub_store.specs.Opens.{BeginsAnew, BeginsBehind, Differs, GoesOn, Left, NotBegun, NotBegunBy, WhyClosed, WhyUnsettled}
-use Rattle.hub_store.specs.Stores.{ByJournal, Found, HasOptions, is_cut, IsLeft, IsOver, IsUnlisted, NoNode, StandsFor}
+use Rattle.hub_store.specs.Stores.{ByJournal, Found, HasOptions, is_cut, IsLeft, IsOver, IsToGoOn, IsUnfinished, IsUnlisted, NoNode, StandsFor}
 
 -- ---- callers
 
@@ -146,6 +147,33 @@ why_since told given now first before after at keeping f same less why = subst (
     by_fault (fault.Option name) why = why
     by_fault (fault.Opening f) why = why
 
+-- ---- whether a hub goes on or begins behind
+
+none_there : (H : List Entry) (n : ℕ) → n ≡ length H → n ≡ 0 → H ≡ []
+none_there [] n is none = refl
+none_there (e ∷ H) n is none = absurd (cc)
+
+unfinished_by : (j : Journal Replay) (H : List Entry) → StandsFor j H → IsToGoOn j → IsUnfinished H
+unfinished_by j H stands_for (inl none) = inl (none_there H j.entries stands_for.count none)
+unfinished_by j H stands_for (inr ongoing) = inr (ongoing.of H stands_for.stands)
+
+-- the next numbers are numbers that a hub may begin with
+pub valid_behind : (told next : HubConfig) → HasOptions told next → 1 ≤ next.first_node → 1 ≤ next.first_request → IsValid told → IsValid next
+valid_behind told next same node request valid = record {
+  timeout_least = subst (λ (n : ℕ). LEAST_QUEUE_TIME_MS ≤ n) (sym same.timeout) valid.timeout_least;
+  timeout_most = subst (λ (n : ℕ). n ≤ MOST_QUEUE_TIME_MS) (sym same.timeout) valid.timeout_most;
+  idle_least = subst (λ (n : ℕ). LEAST_IDLE_MS ≤ n) (sym same.idle) valid.idle_least;
+  idle_most = subst (λ (n : ℕ). n ≤ MOST_IDLE_MS) (sym same.idle) valid.idle_most;
+  lapse_least = subst (λ (n : ℕ). LEAST_LAPSE_MS ≤ n) (sym same.lapse) valid.lapse_least;
+  lapse_most = subst (λ (n : ℕ). n ≤ MOST_LAPSE_MS) (sym same.lapse) valid.lapse_most;
+  queue_least = subst (λ (n : ℕ). 1 ≤ n) (sym same.queue) valid.queue_least;
+  queue_most = subst (λ (n : ℕ). n ≤ MOST_REQUESTS) (sym same.queue) valid.queue_most;
+  first_node = node;
+  first_request = request;
+  down_least = omega (arith, same.lapse, same.down, valid.down_least);
+  down_most = subst (λ (n : ℕ). n ≤ MOST_DOWN_MS) (sym same.down) valid.down_most;
+}
+
 -- ---- a journal that was found
 
 found_keeps : (c : HubConfig) (H : List Entry) (given kept : Option (List ℕ)) (whole : ℕ) → IsLeft given c H → whole ≡ length (journal_bytes c H) → kept ≡ option_map (take whole) given → Keeps c H kept
@@ -176,20 +204,21 @@ closed_found_as told given j before after moment at most keeping now kept f g fo
     subst (λ (s : StoreFault). WhyClosed told given before after moment kept s) (sym same_fault)
     (subst (λ (k : Keeping). WhyUnsettled given moment k f) (sym same) (subst (λ (n : ℕ). WhyUnsettled given n now f) there (closed_found given j at most keeping now f found is bytes why)))
 
-pub goes_on : (told : HubConfig) (given : Option (List ℕ)) (j : Journal Replay) (keeping : Keeping) (most : ℕ) (config : HubConfig) (core : HubCore) (now : Keeping) (first : ℕ) (found : Found given j) → HasOptions told j.ledger.config → config ≡ j.ledger.config →
+pub goes_on : (told : HubConfig) (given : Option (List ℕ)) (j : Journal Replay) (keeping : Keeping) (most : ℕ) (config : HubConfig) (core : HubCore) (now : Keeping) (first : ℕ) (found : Found given j) → IsToGoOn j → HasOptions told j.ledger.config → config ≡ j.ledger.config →
     most ≡ most_caller found.history → kept_by keeping ≡ option_map (take j.whole) given → GoesOnFrom j.ledger j.listener keeping most core now first → first ≡ most + 1 → GoesOn told given config core now first
-goes_on told given j keeping most config core now first found options same is bytes goes next = record {
+goes_on told given j keeping most config core now first found unfinished options same is bytes goes next = record {
   history = found.history;
   left = subst (λ (d : HubConfig). IsLeft given d found.history) (sym same) found.left;
+  unfinished = unfinished_by j found.history found.stands_for unfinished;
   options = subst (λ (d : HubConfig). HasOptions told d) (sym same) options;
   continues = subst (λ (d : HubConfig). Continues d core now first found.history) (sym same) (goes.of found.history (found_read given j keeping most found is bytes));
   next = next ∙ ap (λ (n : ℕ). n + 1) is;
 }
 
-pub closed_option : (told : HubConfig) (given : Option (List ℕ)) (j : Journal Replay) (before after at : ℕ) (kept : Keeping) (config : HubConfig) (name : HubOption) (g : StoreFault) → Found given j → g ≡ fault.Option name → config ≡ j.ledger.config → Differs name told config → WhyClosed told given before after at kept g
-closed_option told given j before after at kept config name g found is same differs =
+pub closed_option : (told : HubConfig) (given : Option (List ℕ)) (j : Journal Replay) (before after at : ℕ) (kept : Keeping) (config : HubConfig) (name : HubOption) (g : StoreFault) → Found given j → IsToGoOn j → g ≡ fault.Option name → config ≡ j.ledger.config → Differs name told config → WhyClosed told given before after at kept g
+closed_option told given j before after at kept config name g found unfinished is same differs =
     subst (λ (s : StoreFault). WhyClosed told given before after at kept s) (sym is)
-    (record { config = j.ledger.config; history = found.history; left = found.left; holds = subst (λ (d : HubConfig). Differs name told d) same differs })
+    (record { config = j.ledger.config; history = found.history; left = found.left; holds = (subst (λ (d : HubConfig). Differs name told d) same differs, unfinished_by j found.history found.stands_for unfinished) })
 
 pub begins_behind : (told next : HubConfig) (given aside : Option (List ℕ)) (j : Journal Replay) (most : ℕ) (config : HubConfig) (core : HubCore) (now : Keeping) (first : ℕ) (found : Found given j) → 1 ≤ j.entries → HasOptions told next →
     LedgerTells j.ledger (λ H. next.first_node ≡ next_node j.ledger.config H) → LedgerTells j.ledger (λ H. next.first_request ≡ next_request j.ledger.config H) → LedgerTells j.ledger IsOver →
@@ -281,17 +310,6 @@ refused_as told given before after at keeping v g is cut none says =
     subst (λ (s : StoreFault). WhyClosed told given before after at keeping s) (sym is) (record { ends = goes_no_further v cut none; says = says })
 
 -- ---- nodes that are listed
-
-pub unlisted_by : {A : Type 0} (H : List Entry) (n : ℕ) (address : Option A) (told : is_listed H n ≡ true → is_some address ≡ true) → is_none address ≡ true → IsUnlisted H n
-unlisted_by {A = A} H n address told none = by_test (is_listed H n) refl
-  where
-    both : (o : Option A) → is_some o ≡ true → is_none o ≡ true → ⊥
-    both None e f = absurd (cc)
-    both (Some x) e f = absurd (cc)
-
-    by_test : (b : Bool) → is_listed H n ≡ b → IsUnlisted H n
-    by_test false e = e
-    by_test true e = absurd (both address (told e) none)
 
 below_or : (i j : ℕ) → j < i + 1 → (j < i) ⊎ (j ≡ i)
 below_or i j h = elim (nat_lt j i) as (λ v. nat_lt j i ≡ v → (j < i) ⊎ (j ≡ i)) [

@@ -1,5 +1,5 @@
 -- What a hub goes on from, and why it does not.
-use Rattle.std.specs.Prelude.{◌≡◌, ◌≢◌, ◌⊎◌, ℕ, ◌+◌, ◌-◌, ◌^◌, ◌<◌, ◌≤◌, max, false, List, [], length, Option, None, Some, IfSome}
+use Rattle.std.specs.Prelude.{◌≡◌, ◌≢◌, ◌⊎◌, ℕ, ◌+◌, ◌-◌, ◌^◌, ◌<◌, ◌≤◌, max, false, List, [], length, Option, IfSome}
 use Rattle.grid_types.specs.declared.config.HubConfig.{HubConfig}
 use Rattle.grid_types.specs.declared.entry.Entry.{Entry}
 use Rattle.grid_types.specs.declared.limits.TheConstants.{LAST_MOMENT}
@@ -20,15 +20,16 @@ use Rattle.hub_store.specs.declared.fault.HubOption.{HubOption}
 use Rattle.hub_store.specs.declared.fault.HubOption.TheVariants as hub_option
 use Rattle.hub_store.specs.declared.fault.StoreFault.{StoreFault}
 use Rattle.hub_store.specs.declared.fault.StoreFault.TheVariants as fault
-use Rattle.hub_store.specs.Stores.{HasOptions, IsLeft, IsOver}
+use Rattle.hub_store.specs.Stores.{HasOptions, IsLeft, IsOver, IsUnfinished}
 
 -- ---- a hub
 
--- The hub goes on from the history whose journal was found, under the options that it was told, and its passes have numbers above
--- that of each caller of before.
+-- The hub goes on from the history whose journal was found, in which something goes on where it has an entry, under the options
+-- that it was told. Its passes have numbers above that of each caller of before.
 pub record GoesOn (told : HubConfig) (given : Option (List ℕ)) (config : HubConfig) (core : HubCore) (keeping : Keeping) (first : ℕ) : Type 0 where
   pub history : List Entry
   pub left : IsLeft given config history
+  pub unfinished : IsUnfinished history
   pub options : HasOptions told config
   pub continues : Continues config core keeping first history
   pub next : first ≡ most_caller history + 1
@@ -102,11 +103,11 @@ WhyUnsettled given at keeping opening_fault.Late = (LAST_MOMENT < at) ⊎ Left g
 WhyUnsettled given at keeping opening_fault.Numbers = Left given (λ config history. 2 ^ 64 - 1 ≤ most_caller history)
 WhyUnsettled given at keeping opening_fault.Memory = Unit {0}
 
--- By the fault: the store failed; the verdict leaves nothing; the journal is of a hub with another value of the option; or what was
--- under way was not settled. Memory may lack at any time.
+-- By the fault: the store failed; the verdict leaves nothing; the journal is of a hub with another value of the option, and is not
+-- over; or what was under way was not settled. Memory may lack at any time.
 abbrev pub WhyClosed : HubConfig → Option (List ℕ) → ℕ → ℕ → ℕ → Keeping → StoreFault → Type 0
 WhyClosed told given before after at keeping fault.Memory = Unit {0}
 WhyClosed told given before after at keeping fault.Failed = Rose before after
 WhyClosed told given before after at keeping (fault.Verdict verdict) = IsRefused given verdict
-WhyClosed told given before after at keeping (fault.Option name) = Left given (λ config history. Differs name told config)
+WhyClosed told given before after at keeping (fault.Option name) = Left given (λ config history. Differs name told config × IsUnfinished history)
 WhyClosed told given before after at keeping (fault.Opening why) = WhyUnsettled given at keeping why

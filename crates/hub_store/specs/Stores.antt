@@ -4,8 +4,8 @@ use Rattle.grid_types.specs.declared.config.HubConfig.{HubConfig}
 use Rattle.grid_types.specs.declared.entry.Entry.{Entry}
 use Rattle.grid_types.specs.Slots.{is_listed, listed}
 use Rattle.grid_journal.specs.EntryReads.{BeginsEntry}
-use Rattle.grid_ledger.specs.LedgerStands.{Stands}
-use Rattle.grid_ledger.specs.Open.{NoRequest, NoSlot}
+use Rattle.grid_ledger.specs.LedgerStands.{LedgerTells, Stands}
+use Rattle.grid_ledger.specs.Open.{NoRequest, NoSlot, SomeRequest, SomeSlot}
 use Rattle.grid_journal.specs.Spelled.{journal_bytes}
 use Rattle.grid_replay.specs.declared.replay.Replay.{Replay}
 use Rattle.grid_replay.specs.Replays.{Shows}
@@ -66,3 +66,19 @@ NoNode history = listed history ≡ []
 -- nothing goes on: no node is listed, and nothing is open
 abbrev pub IsOver : List Entry → Type 0
 IsOver history = NoNode history × NoSlot history × NoRequest history
+
+-- some node is listed
+abbrev pub SomeNode : List Entry → Type 0
+SomeNode history = (node : ℕ) × (is_listed history node ≡ true)
+
+-- something goes on: a node is listed, a slot is open, or a request
+abbrev pub IsOngoing : List Entry → Type 0
+IsOngoing history = SomeNode history ⊎ (SomeSlot history ⊎ SomeRequest history)
+
+-- there is no entry yet, or something goes on
+abbrev pub IsUnfinished : List Entry → Type 0
+IsUnfinished history = (history ≡ []) ⊎ IsOngoing history
+
+-- the same of what stands for a history
+abbrev pub IsToGoOn : Journal Replay → Type 0
+IsToGoOn journal = (journal.entries ≡ 0) ⊎ LedgerTells journal.ledger IsOngoing

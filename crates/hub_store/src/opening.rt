@@ -13,11 +13,11 @@ ghost use Rattle.hub_opening.specs.Handed.{Continues};
 ghost use Rattle.hub_cell.specs.Passes.{BeginsAs, IsOf, config_of, core_of, first_of, keeping_of, spares_of};
 ghost use Rattle.hub_store.specs.declared.fault.StoreFault.TheVariants as fault;
 ghost use Rattle.hub_store.specs.Opens.{BeginsAnew, BeginsBehind, GoesOn, NotBegunBy, Opens, WhyClosed};
-ghost use Rattle.hub_store.specs.Stores.{ByJournal, Found, HasOptions, IsOver, is_cut};
+ghost use Rattle.hub_store.specs.Stores.{ByJournal, Found, HasOptions, IsOver, IsToGoOn, is_cut};
 
 use crate::fault::{StoreFault, Unopened};
 use crate::options::other_option;
-use crate::over::is_over;
+use crate::over::is_to_go_on;
 use crate::store::{Outset, Store};
 use grid_journal::write_head;
 use grid_ledger::GridLedger;
@@ -175,6 +175,7 @@ fn go_on<R: Wait, S: Store, E: Ender<Replay>>(
     passes: u32,
 ) -> Result<(SharedHub, Pass), Unopened>
     requires found { Found (S.Source.view store.old).given journal }
+    requires unfinished { IsToGoOn journal }
     requires options { HasOptions told journal.ledger.config }
     requires passes { (1 ≤ passes) × (passes ≤ 256) }
     ensures own { IfOk result (λ r. IsOf r.0 r.1) }
@@ -224,6 +225,7 @@ fn go_on_as<R: Wait, S: Store, E: Ender<Replay>>(
     passes: u32,
 ) -> Result<(SharedHub, Pass), Unopened>
     requires found { Found (S.Source.view store.old).given journal }
+    requires unfinished { IsToGoOn journal }
     requires passes { (1 ≤ passes) × (passes ≤ 256) }
     ensures own { IfOk result (λ r. IsOf r.0 r.1) }
     ensures pass { IfOk result (λ r. BeginsAs (first_of r.0) r.1
@@ -252,6 +254,7 @@ fn by_journal<R: Wait, S: Store, E: Ender<Replay>>(
     ender: &mut E,
     passes: u32,
 ) -> Result<(SharedHub, Pass), Unopened>
+    requires valid { IsValid told }
     requires found { Found (S.Source.view store.old).given journal }
     requires passes { (1 ≤ passes) × (passes ≤ 256) }
     ensures own { IfOk result (λ r. IsOf r.0 r.1) }
@@ -269,10 +272,10 @@ fn by_journal<R: Wait, S: Store, E: Ender<Replay>>(
         first_request: journal.ledger.next_request(),
         ..told
     };
-    if journal.entries > 0 && next.is_valid() && is_over(&journal.ledger) {
-        return begin_behind(rt, alloc, told, next, journal, store, ender, passes);
+    if is_to_go_on(&journal) {
+        return go_on_as(rt, alloc, told, journal, store, ender, passes);
     }
-    go_on_as(rt, alloc, told, journal, store, ender, passes)
+    begin_behind(rt, alloc, told, next, journal, store, ender, passes)
 }
 
 /// Whether the bytes end inside a head or an entry.

@@ -1,28 +1,23 @@
 //! Whether nothing is left of a history to go on from.
-ghost use Rattle.std.specs.Prelude.{◌≡◌, true};
+ghost use Rattle.std.specs.Prelude.{◌≡◌, ◌≤◌, false, true};
 ghost use Rattle.grid_ledger.specs.LedgerStands.{LedgerTells};
-ghost use Rattle.hub_store.specs.Stores.{IsOver, IsUnlisted, NoNode};
+ghost use Rattle.hub_store.specs.Stores.{IsOngoing, IsOver, IsToGoOn, NoNode, SomeNode};
 
 use grid_ledger::GridLedger;
-use grid_types::{NodeNo, history_laws};
-
-/// Whether the node is not listed.
-fn is_unlisted(ledger: &GridLedger, node: NodeNo) -> bool
-    ensures { LedgerTells ledger.now (λ H. result ≡ true → IsUnlisted H node) }
-{
-    history_laws();
-    ledger.node_address(node).is_none()
-}
+use grid_replay::Replay;
+use grid_types::history_laws;
+use journal_verdicts::Journal;
 
 /// Whether no node is listed. It looks at each number that a node has had.
 fn has_no_node(ledger: &GridLedger) -> bool
-    ensures { result ≡ true → LedgerTells ledger.now NoNode }
+    ensures none { result ≡ true → LedgerTells ledger.now NoNode }
+    ensures some { result ≡ false → LedgerTells ledger.now SomeNode }
 {
     history_laws();
     let first = ledger.config().first_node;
     let next = ledger.next_node();
     for node in first..next {
-        if !is_unlisted(ledger, node) {
+        if ledger.is_listed(node) {
             return false;
         }
     }
@@ -30,8 +25,27 @@ fn has_no_node(ledger: &GridLedger) -> bool
 }
 
 /// Whether nothing goes on: no node is listed, no slot held or closing, and each request settled and taken.
-pub(crate) fn is_over(ledger: &GridLedger) -> bool
-    ensures { result ≡ true → LedgerTells ledger.now IsOver }
+fn is_over(ledger: &GridLedger) -> bool
+    ensures over { result ≡ true → LedgerTells ledger.now IsOver }
+    ensures ongoing { result ≡ false → LedgerTells ledger.now IsOngoing }
 {
-    has_no_node(ledger) && ledger.has_no_open_slot() && ledger.has_no_request()
+    if !has_no_node(ledger) {
+        return false;
+    }
+    if !ledger.has_no_open_slot() {
+        return false;
+    }
+    ledger.has_no_request()
+}
+
+/// Whether a hub goes on from the journal: it has no entry, or something goes on in it.
+pub(crate) fn is_to_go_on(journal: &Journal<Replay>) -> bool
+    ensures yes { result ≡ true → IsToGoOn journal.now }
+    ensures no { result ≡ false →
+        (1 ≤ journal.now.entries) × LedgerTells journal.now.ledger IsOver }
+{
+    if journal.entries == 0 {
+        return true;
+    }
+    !is_over(&journal.ledger)
 }

@@ -1,5 +1,5 @@
 //! What is open in a history: slots that are held or closing, and requests whose outcome is not there or was not handed out.
-ghost use Rattle.std.specs.Prelude.{◌≡◌, true, MatchOption, map, option_map};
+ghost use Rattle.std.specs.Prelude.{◌≡◌, false, true, MatchOption, map, option_map};
 ghost use Rattle.grid_types.specs.declared.limits.TheConstants.{MOST_SLOTS};
 ghost use Rattle.grid_types.specs.History.{clock, next_node, next_request};
 ghost use Rattle.grid_types.specs.Requests.{place};
@@ -9,7 +9,7 @@ ghost use Rattle.grid_types.specs.Slots.{has_slot_in_use, holder, is_listed, slo
 ghost use Rattle.reservation.specs.Table.{IsUseOf, holder_of};
 ghost use Rattle.session_queue.specs.Table.{RowTells, is_gone};
 ghost use Rattle.grid_ledger.specs.LedgerStands.{LedgerTells};
-ghost use Rattle.grid_ledger.specs.Open.{IsCloseOn, NoRequest, NoSlot, is_open};
+ghost use Rattle.grid_ledger.specs.Open.{IsCloseOn, NoRequest, NoSlot, SomeRequest, SomeSlot, is_open};
 
 use crate::ledger::GridLedger;
 use grid_types::{MOST_SLOTS, Moment, NodeAddress, NodeNo, ReqNo, SessionId, SlotId, history_laws};
@@ -50,6 +50,13 @@ impl GridLedger {
         ensures { LedgerTells self.now (λ H. result ≡ has_slot_in_use H node) }
     {
         self.slots.has_slot_in_use(node)
+    }
+
+    /// Whether the node is registered, or has a slot that is not free.
+    pub fn is_listed(&self, node: NodeNo) -> bool
+        ensures { LedgerTells self.now (λ H. result ≡ is_listed H node) }
+    {
+        self.nodes.is_registered(node) || self.slots.has_slot_in_use(node)
     }
 
     /// The address of a listed node.
@@ -108,7 +115,8 @@ impl GridLedger {
 
     /// Whether none of the 64 slots that a node may have is held or closing.
     fn are_close_on(&self, node: NodeNo) -> bool
-        ensures { result ≡ true → LedgerTells self.now (λ H. IsCloseOn H node MOST_SLOTS) }
+        ensures close { result ≡ true → LedgerTells self.now (λ H. IsCloseOn H node MOST_SLOTS) }
+        ensures open { result ≡ false → LedgerTells self.now SomeSlot }
     {
         for index in 0..MOST_SLOTS as u16 {
             if self.is_open(SlotId { node, index }) {
@@ -120,7 +128,8 @@ impl GridLedger {
 
     /// Whether no slot of a node is held or closing.
     fn is_close_on(&self, node: NodeNo) -> bool
-        ensures { result ≡ true → LedgerTells self.now (λ H. IsCloseOn H node MOST_SLOTS) }
+        ensures close { result ≡ true → LedgerTells self.now (λ H. IsCloseOn H node MOST_SLOTS) }
+        ensures open { result ≡ false → LedgerTells self.now SomeSlot }
     {
         history_laws();
         if !self.slots.has_slot_in_use(node) {
@@ -131,7 +140,8 @@ impl GridLedger {
 
     /// Whether no slot is held or closing. It looks at each number that a node has had.
     pub fn has_no_open_slot(&self) -> bool
-        ensures { result ≡ true → LedgerTells self.now NoSlot }
+        ensures none { result ≡ true → LedgerTells self.now NoSlot }
+        ensures some { result ≡ false → LedgerTells self.now SomeSlot }
     {
         history_laws();
         for node in self.config.first_node..self.next_node {
@@ -144,8 +154,7 @@ impl GridLedger {
 
     /// Whether the request is taken, or was never queued.
     fn is_over(&self, request: ReqNo) -> bool
-        ensures { LedgerTells self.now
-            (λ H. result ≡ true → is_gone (place H request) ≡ true) }
+        ensures { LedgerTells self.now (λ H. result ≡ is_gone (place H request)) }
     {
         match self.requests.get(request) {
             Some(_) => false,
@@ -155,7 +164,8 @@ impl GridLedger {
 
     /// Whether each request that was queued is taken. It looks at each number that a request has had.
     pub fn has_no_request(&self) -> bool
-        ensures { result ≡ true → LedgerTells self.now NoRequest }
+        ensures none { result ≡ true → LedgerTells self.now NoRequest }
+        ensures some { result ≡ false → LedgerTells self.now SomeRequest }
     {
         history_laws();
         for request in self.config.first_request..self.next_request {

@@ -1,4 +1,4 @@
-use Rattle.std.proofs.Common.{◌∙◌, sym, subst}
+use Rattle.std.proofs.Common.{sym, subst}
 use Rattle.grid_types.specs.declared.config.HubConfig.{HubConfig}
 use Rattle.grid_types.specs.Config.{IsValid}
 use Rattle.hub_store.proofs.OpenLemmas.{begins_of, empty_read, is_read, not_begun_as}

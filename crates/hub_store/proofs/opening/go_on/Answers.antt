@@ -1,4 +1,3 @@
-use Rattle.std.proofs.Common.{◌∙◌, sym, subst}
 use Rattle.hub_store.proofs.OpenLemmas.{closed_found_as, found_read, goes_on, is_read}
 use Rattle.hub_store.proofs.opening.go_on.Goals as goal
 
@@ -14,7 +13,7 @@ settle_and_go_on-requires-clause-valid g c = c.requires.found.left.journal.is_va
 pub returns-in-Ok-settle_and_go_on-clause-opens : goal.returns-in-Ok-settle_and_go_on-clause-opens
 returns-in-Ok-settle_and_go_on-clause-opens g c =
     let found = c.requires.found in
-    goes_on c.args.told (g.S.Source.view c.args.store.now).given c.args.journal c.in-Ok.outset.keeping c.most_caller-most_caller.result _ _ _ _ found c.requires.options c.in-Ok-settle_and_go_on.ensures.config
+    goes_on c.args.told (g.S.Source.view c.args.store.now).given c.args.journal c.in-Ok.outset.keeping c.most_caller-most_caller.result _ _ _ _ found c.requires.unfinished c.requires.options c.in-Ok-settle_and_go_on.ensures.config
     (c.most_caller-most_caller.ensures found.history found.stands_for.shows) c.in-Ok.ensures.kept c.in-Ok-settle_and_go_on.ensures.goes_on c.in-Ok-settle_and_go_on.ensures.next
 
 pub returns-in-Err-clause-reason : goal.returns-in-Err-clause-reason

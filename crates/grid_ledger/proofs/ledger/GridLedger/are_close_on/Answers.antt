@@ -10,5 +10,5 @@ loop-index-preserved c = record {
   of = λ H s. close_more H c.args.node c.loop-index.index c.is_open.result (c.is_open.ensures.of H s) c.if-is_open.false (c.loop-index.invariant.of H s);
 }
 
-pub returns : goal.returns
-returns c = λ yes. record { of = λ H s slot same below. c.loop-index.invariant.of H s slot same (omega (arith, below, c.loop-index-test.false)) }
+pub returns-clause-close : goal.returns-clause-close
+returns-clause-close c = λ yes. record { of = λ H s slot same below. c.loop-index.invariant.of H s slot same (omega (arith, below, c.loop-index-test.false)) }

@@ -10,11 +10,11 @@ loop-node-init c = record { of = λ H s n least below. absurd (omega (arith, lea
 pub loop-node-preserved : goal.loop-node-preserved
 loop-node-preserved c = record {
   of = λ H s. one_more (λ (n : ℕ). IsCloseOn H n MOST_SLOTS) c.args.self.now.config.first_node c.loop-node.node
-      ((c.is_close_on.ensures c.if-not-is_close_on.false).of H s) (c.loop-node.invariant.of H s);
+      ((c.is_close_on.ensures.close c.if-not-is_close_on.false).of H s) (c.loop-node.invariant.of H s);
 }
 
-pub returns : goal.returns
-returns c = λ yes. record {
+pub returns-clause-none : goal.returns-clause-none
+returns-clause-none c = λ yes. record {
   of = λ H s. none_open c.history_laws.ensures c.args.self.now.config H s.is_legal
       (λ n least below. c.loop-node.invariant.of H s n least (omega (arith, below, s.counts_nodes, c.loop-node-test.false)));
 }
