@@ -1,6 +1,8 @@
 //! What one pass does between the call that gave it a token and the one that uses it.
-ghost use Rattle.hub_cell.specs.Passes.{knows, IsOf};
+ghost use Rattle.std.specs.Prelude.{◌≡◌, ◌^◌, max, IfOk, IfErr, IfSome};
+ghost use Rattle.hub_cell.specs.Passes.{knows, config_of, first_of, IsOf};
 ghost use Rattle.hub_cell.specs.Shared.{HasTicket, HasReservation, KeepsAll};
+ghost use Rattle.hub_clients.specs.Turns.{HasTaken, AsksLast};
 
 use grid_types::{Caps, Choices, Moment, NodeNo, SessionId};
 use hub_cell::{Pass, SharedHub, Spent};
@@ -20,6 +22,8 @@ pub fn beats<R: Wait>(
     requires { IsOf hub.now pass.old }
     ensures own { IsOf hub.now pass.new }
     ensures keeps { KeepsAll (knows pass.old) (knows pass.new) }
+    ensures taken { IfOk result (λ _. HasTaken times (knows pass.old) (knows pass.new)) }
+    ensures spent { IfErr result (λ s. s.ticket ≡ max (first_of hub.now) (2 ^ 62)) }
 {
     for _ in 0..times {
         hub.beat(rt, pass, node, at)?;
@@ -40,7 +44,9 @@ pub fn start_far_away<R: Wait>(
     at: Moment,
 ) -> Option<Polled>
     requires { IsOf hub.now pass.old }
-    ensures { IsOf hub.now pass.new }
+    ensures own { IsOf hub.now pass.new }
+    ensures asks { IfSome result (λ told. AsksLast (config_of hub.now) 104 (knows pass.old) at.0 told
+        (knows pass.new)) }
 {
     let Ok(Enqueued::Queued(ticket)) = hub.enqueue(rt, pass, choices, at) else {
         return None;
@@ -48,9 +54,14 @@ pub fn start_far_away<R: Wait>(
     let Ok(Dispatched::Assigned(reservation)) = hub.dispatch(rt, pass, at) else {
         return None;
     };
-    beats(rt, hub, pass, node, at, 100).ok()?;
+    let Ok(()) = beats(rt, hub, pass, node, at, 100) else {
+        return None;
+    };
     let Ok(Binding::Bound(_)) = hub.bind(rt, pass, reservation, session, caps, at) else {
         return None;
     };
-    hub.poll(rt, pass, ticket, at).ok()
+    let Ok(told) = hub.poll(rt, pass, ticket, at) else {
+        return None;
+    };
+    Some(told)
 }
