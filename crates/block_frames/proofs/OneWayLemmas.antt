@@ -1,11 +1,11 @@
 -- That bytes are blocks in one way.
-use Rattle.std.proofs.Common.{◌≡◌, ◌⊎◌, inl, inr, ℕ, ◌+◌, ◌<◌, ◌≤◌, ◌^◌, List, [], ◌∷◌, ◌++◌, length, refl, sym, ap, ap₂, subst, ◌∙◌, arith, append_assoc, append-nil}
+use Rattle.std.proofs.Common.{◌≡◌, inl, inr, ℕ, ◌+◌, ◌<◌, ◌≤◌, ◌^◌, List, [], ◌∷◌, ◌++◌, length, refl, sym, ap, ap₂, subst, ◌∙◌, arith, append_assoc, append-nil}
 use Rattle.std.proofs.lemmas.List.{length-append}
 use Rattle.std.proofs.lemmas.Nat.{from_be_bytes-to_be_bytes_4}
 use Rattle.std.specs.Int.{from_be_bytes, w32}
-use Rattle.block_frames.specs.Blocks.{IsCut, in_block, in_length}
+use Rattle.block_frames.specs.Blocks.{in_block, in_length}
 use Rattle.block_frames.specs.Frames.{frame, framed, length_bytes}
-use Rattle.block_frames.specs.OneWay.{AllWithin, IsLong, IsRest, SameReading}
+use Rattle.block_frames.specs.OneWay.{AllWithin, IsRest, SameReading}
 
 pub four : (n : ℕ) → length (length_bytes n) ≡ 4
 four n = refl

@@ -3,11 +3,10 @@ use Rattle.std.proofs.Common.{◌≡◌, ℕ, ◌+◌, ◌<◌, ◌≤◌, ◌^�
 use Rattle.std.specs.Prelude.{Option}
 use Rattle.std.specs.Result.{is_err}
 use Rattle.std.proofs.lemmas.List.{length-append}
-use Rattle.grid_outside.specs.Counts.{Rose}
 use Rattle.grid_outside.specs.Told.{Gains, SourceView, TookFront}
 use Rattle.grid_outside.specs.StreamLaws.{gains_more, rose_later, none_before}
-use Rattle.block_frames.specs.Blocks.{ReadsBlock, ReadsSized, in_block, IsCut}
-use Rattle.block_frames.specs.Frames.{length_bytes, frame}
+use Rattle.block_frames.specs.Blocks.{ReadsBlock, ReadsSized, in_block}
+use Rattle.block_frames.specs.Frames.{length_bytes}
 use Rattle.block_frames.specs.Inputs.{Reads, ReadsOn, ReadsPart, ReadsPiece, ReadsSome}
 use Rattle.block_frames.specs.declared.parts.Part.TheVariants as part
 use Rattle.block_frames.specs.declared.parts.ReadFault.{ReadFault}

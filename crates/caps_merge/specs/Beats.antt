@@ -1,5 +1,5 @@
 -- What the bytes of a beat's body say: the name of the node that beats, or nothing.
-use Rattle.std.specs.Prelude.{◌≡◌, ◌≢◌, ℕ, ◌<◌, ◌≤◌, List, [], length, Option, None, Some, Result, Ok, Err, codes, IsUtf8}
+use Rattle.std.specs.Prelude.{◌≡◌, ◌≢◌, ℕ, ◌<◌, ◌≤◌, List, length, Option, None, Some, Result, Ok, Err, codes, IsUtf8}
 use Rattle.json_spans.specs.Grammar.{Tree}
 use Rattle.json_spans.specs.Parts.{IsText}
 use Rattle.json_spans.specs.Cut.{Refuses}

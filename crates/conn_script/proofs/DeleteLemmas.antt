@@ -24,7 +24,7 @@ use Rattle.conn_script.specs.declared.wants.HubAnswer.TheVariants as answers
 use Rattle.conn_script.specs.Responses.{bytes_of}
 use Rattle.conn_script.specs.Messages.{no_such_session}
 use Rattle.conn_script.specs.DeleteSession as rules
-use Rattle.conn_script.specs.DeleteSession.{AfterQuit, AfterEnd, AfterLookup, AsksWhere, FreesLast, QuitLacks, EndLacks, DeleteLacks, quit_response}
+use Rattle.conn_script.specs.DeleteSession.{AfterQuit, AfterEnd, AfterLookup, AsksWhere, QuitLacks, EndLacks, DeleteLacks}
 use Rattle.conn_script.specs.Wanted.{to_call, to_ask, FitsKind, Kind}
 use Rattle.conn_script.specs.Turns.{responded, IsUnanswered}
 use Rattle.conn_script.specs.Deleting.{DeletesOn, LookupTurns, EndTurns, QuitTurns, FreeTurns, IsFreeSpent, IsKept, quitted_of, kept_response, is_lacking, FreesLacking}

@@ -12,7 +12,7 @@ use Rattle.node_client.specs.Asks.{with_path}
 use Rattle.node_client.specs.Paths.{path_text}
 use Rattle.node_client.specs.Held.{Token}
 use Rattle.node_client.specs.Places as places
-use Rattle.node_client.specs.Places.{Place, wanted_at}
+use Rattle.node_client.specs.Places.{wanted_at}
 use Rattle.node_client.specs.Start.{Start}
 use Rattle.node_client.specs.Steps.{Step, Exchanged, Paused, gives_up}
 use Rattle.conn_script.specs.declared.calling.Asked.{Asked}

@@ -30,13 +30,13 @@ use Rattle.conn_script.specs.Messages.{register_response, node_response, clear_r
 use Rattle.conn_script.specs.Begin as begin
 use Rattle.conn_script.specs.Begin.{AsksToEnd, Expires, Begins, Begun, ExpireLacks, BeginLacks, BegunLacks}
 use Rattle.conn_script.specs.OneCall as one
-use Rattle.conn_script.specs.OneCall.{OneCall, CallLacks, NodeCall, NodeCallLacks, Beats, BeatsLack, Registers, RegisterLacks}
+use Rattle.conn_script.specs.OneCall.{OneCall, CallLacks, NodeCall, Beats, Registers}
 use Rattle.conn_script.specs.DeleteSession as deleting
 use Rattle.conn_script.specs.DeleteSession.{AfterQuit, AfterEnd, AfterLookup, AsksWhere, DeleteSession, FreesLast, QuitLacks, EndLacks, DeleteLacks, quit_response}
 use Rattle.conn_script.specs.Relay as relaying
 use Rattle.conn_script.specs.Relay.{AfterTouch, AfterFound, FindsNode, Relay, ExchangeLacks, TouchLacks, RelayLacks, relay_response}
 use Rattle.conn_script.specs.NewSession as creating
-use Rattle.conn_script.specs.NewSession.{poll_pause, SpentStart, Withdraws, Rounds, Asks, NewSession, AskLacks, EnqueueLacks}
+use Rattle.conn_script.specs.NewSession.{poll_pause, SpentStart, Withdraws, Rounds, Asks, NewSession, AskLacks}
 use Rattle.conn_script.specs.Ends as ending
 use Rattle.conn_script.specs.Ends.{EndsAtNode, EndsCreated}
 use Rattle.conn_script.specs.Undo.{Undoes}

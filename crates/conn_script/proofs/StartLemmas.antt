@@ -21,7 +21,7 @@ use Rattle.node_client.specs.Held.{Token, of_ticket, of_reservation, of_closing,
 use Rattle.node_client.specs.Places as places
 use Rattle.node_client.specs.Places.{Place, at_start, at_bind, at_return, at_fail, at_quit, at_free, at_end, wanted_at, made, gives_up_at, IsFreed, IsFail, FitsBind}
 use Rattle.node_client.specs.Carrying as carrying
-use Rattle.node_client.specs.Carrying.{Stands, OfEach, HandsOut, Takes, Feeds, Readies, FinishedAt, awaited, held, is_fresh}
+use Rattle.node_client.specs.Carrying.{OfEach, HandsOut, Takes, Feeds, Readies, FinishedAt, awaited, held, is_fresh}
 use Rattle.node_client.specs.StandLaws.{stands_leads}
 use Rattle.node_client.specs.Start.{Start}
 use Rattle.node_client.specs.Steps.{Step, Spent, met_want, gives_up, step_lacks}

@@ -1,12 +1,10 @@
 -- What was told to a piece, by what was added to its bytes.
-use Rattle.std.proofs.Common.{◌≡◌, ℕ, ◌+◌, ◌-◌, ◌^◌, ◌≤◌, ◌<◌, min, List, [], ◌++◌, length, refl, sym, ◌∙◌, ap, arith, length-append, Result, Ok, Err}
+use Rattle.std.proofs.Common.{◌≡◌, ℕ, ◌+◌, ◌-◌, ◌^◌, ◌≤◌, ◌<◌, List, ◌++◌, length, refl, ◌∙◌, ap, arith, length-append, Result, Ok, Err}
 use Rattle.grid_types.specs.declared.limits.TheConstants.{LAST_MOMENT}
 use Rattle.grid_types.specs.declared.entry.Entry.{Entry}
 use Rattle.grid_journal.specs.declared.out.Out.{Out}
 use Rattle.grid_journal.specs.declared.piece.PieceFault.{PieceFault}
 use Rattle.grid_journal.specs.declared.piece.PieceFault.TheVariants as fault
-use Rattle.grid_journal.specs.declared.reading.TheConstants.{MOST_ENTRY_BYTES}
-use Rattle.grid_journal.specs.EntryReads.{IsEntry}
 use Rattle.grid_journal.specs.Spelled.{entry_bytes}
 use Rattle.grid_journal.specs.Fits.{EntryFits}
 use Rattle.grid_journal.specs.Outs.{Holds, Grows}

@@ -1,6 +1,5 @@
 -- The forms of rows.
 use Rattle.std.proofs.Common.{◌≡◌, ℕ, true, List, ◌∷◌, refl, ap, arith}
-use Rattle.grid_types.specs.declared.names.Moment.{Moment}
 use Rattle.grid_types.specs.declared.names.SlotId.{SlotId}
 use Rattle.grid_types.specs.declared.capabilities.Cap.{Cap}
 use Rattle.grid_types.specs.declared.capabilities.Registration.{Registration}

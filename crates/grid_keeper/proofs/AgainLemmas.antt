@@ -1,11 +1,11 @@
 -- What making a row again leads to.
-use Rattle.std.proofs.Common.{◌≡◌, ◌⊎◌, ℕ, max, ◌≤◌, ◌<◌, Bool, true, false, ◌&&◌, nat_lt, List, [], ◌∷◌, length, refl, sym, ◌∙◌, ap, subst, arith, inl, inr, Option, None, Some, IsSome}
+use Rattle.std.proofs.Common.{◌≡◌, ℕ, max, ◌≤◌, ◌<◌, Bool, true, false, ◌&&◌, nat_lt, List, ◌∷◌, length, refl, sym, ◌∙◌, ap, subst, arith, inl, inr, Option, None, Some, IsSome}
 use Rattle.std.proofs.lemmas.List.{length-reverse}
 use Rattle.grid_types.specs.declared.config.HubConfig.{HubConfig}
 use Rattle.grid_types.specs.declared.entry.Entry.{Entry}
 use Rattle.std.specs.Ordering.{nat_cmp}
 use Rattle.std.specs.BTreeMap.{get}
-use Rattle.grid_types.specs.Tokens.{ticket_of, reservation_of, is_good_ticket, is_good_reservation, is_good_closing, Closing, Reservation}
+use Rattle.grid_types.specs.Tokens.{ticket_of, reservation_of, is_good_reservation, is_good_closing, Closing, Reservation}
 use Rattle.grid_types.specs.Laws.{is_good_call}
 use Rattle.grid_types.specs.Permitted.{is_start_failure}
 use Rattle.grid_types.specs.declared.names.Moment.{Moment}
@@ -16,7 +16,7 @@ use Rattle.grid_types.specs.declared.entry.Change.TheVariants as change
 use Rattle.grid_types.specs.History.{after, clock}
 use Rattle.grid_types.specs.Calls.{Call, Reply}
 use Rattle.grid_types.specs.HubAnswers.{hub, after_call, bound_by, refusal_of, drain_after_bind, moment}
-use Rattle.hub_core.specs.Answers.{Answers, IsExact}
+use Rattle.hub_core.specs.Answers.{Answers}
 use Rattle.hub_core.specs.Serves.{MayCall}
 use Rattle.hub_core.specs.HubView.{HubView, past, ServesLocally}
 use Rattle.hub_core.specs.declared.answers.Beating.{Beating}
@@ -37,7 +37,7 @@ use Rattle.hub_core.specs.Replies.{beating_reply, draining_reply, removal_reply,
 use Rattle.grid_journal.specs.declared.rows.Row.{Row}
 use Rattle.grid_journal.specs.declared.rows.Row.TheVariants as row
 use Rattle.grid_journal.specs.RowSpelled.{RowFits}
-use Rattle.grid_keeper.specs.Replays.{Names, row_moment, Goes}
+use Rattle.grid_keeper.specs.Replays.{Names, row_moment}
 use Rattle.grid_keeper.specs.Holds.{HoldsAll, Complete, place_of}
 use Rattle.grid_keeper.proofs.KeepLemmas.{longer}
 use Rattle.grid_keeper.specs.Opening.{NoGo, Again, WentOn}

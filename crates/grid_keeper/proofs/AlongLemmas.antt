@@ -11,7 +11,7 @@ use Rattle.hub_core.specs.Answers.{Answers}
 use Rattle.hub_core.specs.HubView.{HubView, past, ServesLocally}
 use Rattle.row_keeper.specs.Disks.{Disk, Each}
 use Rattle.grid_keeper.specs.Replays.{IsImage}
-use Rattle.grid_keeper.specs.Keeping.{StandsOn, IsOneOf, DiskWent, WentTold, IsOnTheWay, DiskWentAlong, AlongTold, IsOpen, KeptServes, KeptFails, KeptCall, WentAlong}
+use Rattle.grid_keeper.specs.Keeping.{IsOneOf, WentTold, IsOnTheWay, AlongTold, IsOpen, KeptServes, KeptFails, KeptCall, WentAlong}
 use Rattle.grid_keeper.specs.declared.kept_hub.KeptHub.{KeptHub}
 use Rattle.grid_keeper.specs.declared.kept_hub.KeptFault.{KeptFault}
 

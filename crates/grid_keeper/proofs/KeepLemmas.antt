@@ -1,5 +1,5 @@
 -- What is kept of a call, and what its images are.
-use Rattle.std.proofs.Common.{◌≡◌, ◌⊎◌, ℕ, max, ◌+◌, ◌≤◌, ◌<◌, Bool, true, false, List, [], ◌∷◌, ◌++◌, map, reverse, length, refl, sym, ◌∙◌, ap, subst, arith, append_assoc, inl, inr, Option, None, Some, Result, Ok, Err, IfSome, OnOk, IsErr, nat_lt, nat_le, ◌&&◌}
+use Rattle.std.proofs.Common.{◌≡◌, ◌⊎◌, ℕ, max, ◌+◌, ◌≤◌, ◌<◌, Bool, true, false, List, [], ◌∷◌, ◌++◌, reverse, length, refl, sym, ◌∙◌, ap, subst, arith, append_assoc, inl, inr, Option, None, Some, Result, Ok, Err, IfSome, IsErr, nat_lt, nat_le, ◌&&◌}
 use Rattle.std.proofs.lemmas.List.{reverse-append, length-reverse}
 use Rattle.grid_types.specs.declared.config.HubConfig.{HubConfig}
 use Rattle.grid_types.specs.declared.entry.Entry.{Entry}
@@ -10,18 +10,18 @@ use Rattle.grid_journal.specs.Fits.{Within}
 use Rattle.grid_types.specs.declared.names.Moment.{Moment}
 use Rattle.grid_types.specs.Nodes.{is_registered, registration_of}
 use Rattle.grid_types.specs.Permitted.{has_name, is_named}
-use Rattle.grid_types.specs.History.{after, clock, history_of}
+use Rattle.grid_types.specs.History.{after, clock}
 use Rattle.grid_types.specs.Calls.{Call, Reply}
 use Rattle.grid_types.specs.HubAnswers.{hub, after_call, beaten}
 use Rattle.grid_types.specs.Legal.{legal}
 use Rattle.grid_types.specs.Safe.{IsSafe}
 use Rattle.hub_core.specs.Answers.{Answers, may_lack}
-use Rattle.hub_core.specs.Serves.{MayCall, Serves}
+use Rattle.hub_core.specs.Serves.{MayCall}
 use Rattle.hub_core.specs.HubView.{HubView, past, ServesLocally}
 use Rattle.grid_journal.specs.declared.rows.Row.{Row}
 use Rattle.grid_journal.specs.declared.rows.Row.TheVariants as row
 use Rattle.grid_journal.specs.RowSpelled.{row_bytes, RowFits}
-use Rattle.row_keeper.specs.Disks.{Disk, Each, IsEither, Moved, Keeps, KeepsTold, HasKept}
+use Rattle.row_keeper.specs.Disks.{Disk, Each, IsEither, Keeps, KeepsTold, HasKept}
 use Rattle.grid_keeper.specs.Replays.{Names, row_moment, Goes, Replays, IsImage}
 use Rattle.grid_keeper.specs.Keeping.{StandsOn, IsOneOf, DiskWent, WentTold, IsOpen, KeptServes, KeptFails, KeptCall, KeptOrNot, Finishes}
 use Rattle.grid_keeper.specs.declared.kept_hub.KeptHub.{KeptHub}

@@ -1,5 +1,5 @@
 -- What a driver is told of a call that is kept.
-use Rattle.std.proofs.Common.{◌≡◌, ◌≤◌, ◌<◌, ◌⊎◌, ◌∙◌, [], ℕ, ◌^◌, ◌-◌, Bool, true, false, refl, sym, ap, subst, inl, inr, arith}
+use Rattle.std.proofs.Common.{◌≡◌, ◌≤◌, ◌⊎◌, ◌∙◌, [], ℕ, Bool, true, false, refl, sym, ap, subst, inl, inr, arith}
 use Rattle.std.specs.Prelude.{List, Option, None, Some, IfSome, is_some, not, Result, Ok, Err, OnOk, OnErr, is_ok, IsErrOf}
 use Rattle.grid_types.specs.declared.text.NoMemory.{NoMemory}
 use Rattle.grid_types.specs.declared.config.HubConfig.{HubConfig}
@@ -8,14 +8,13 @@ use Rattle.grid_types.specs.Tokens.{Closing}
 use Rattle.grid_types.specs.Calls.{Call, Reply}
 use Rattle.grid_types.specs.HubAnswers.{hub}
 use Rattle.grid_outside.specs.Counts.{Rose}
-use Rattle.hub_core.specs.Answers.{Answers, IsExact, IsLack}
+use Rattle.hub_core.specs.Answers.{Answers, IsExact}
 use Rattle.hub_core.specs.HubView.{HubView, past, ServesLocally}
-use Rattle.hub_core.specs.Serves.{Serves}
 use Rattle.own_hub.specs.Own.{AnswersOrStops, HasAnswered, HasRoom, Roomed, Stops}
 use Rattle.grid_keeper.specs.Replays.{IsImage}
 use Rattle.row_keeper.specs.Disks.{Disk}
-use Rattle.grid_keeper.specs.Keeping.{IsOpen, KeptServes, KeptFails, KeptCall, KeptOrNot, NotMade, WentAlong, WentTold, freed_reply}
-use Rattle.grid_keeper.specs.Runs.{Runs, no_call, room_made, call_kept, MadeRoom, Broke, Ran, Ended, kept_own}
+use Rattle.grid_keeper.specs.Keeping.{IsOpen, KeptServes, KeptFails, KeptCall, NotMade, WentTold, freed_reply}
+use Rattle.grid_keeper.specs.Runs.{room_made, call_kept, Ran, Ended, kept_own}
 use Rattle.grid_keeper.specs.declared.kept_hub.KeptHub.{KeptHub}
 use Rattle.grid_keeper.specs.declared.kept_hub.KeptFault.{KeptFault}
 use Rattle.grid_keeper.specs.declared.kept_hub.KeptFault.TheVariants as fault

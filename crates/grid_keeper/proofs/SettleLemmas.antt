@@ -1,5 +1,5 @@
 -- What spending one open token after the other leaves.
-use Rattle.std.proofs.Common.{◌≡◌, ◌⊎◌, ℕ, ◌<◌, Bool, true, false, not, ◌&&◌, refl, sym, subst, ◌∙◌, ap, inl, inr, List}
+use Rattle.std.proofs.Common.{◌≡◌, ◌⊎◌, ℕ, ◌<◌, Bool, true, false, not, ◌&&◌, refl, sym, subst, inl, inr, List}
 use Rattle.std.specs.Prelude.{Option, None, Some, IsSome, nat_eq, Result, Ok, Err, OnOk}
 use Rattle.std.specs.Ordering.{nat_cmp}
 use Rattle.std.specs.BTreeMap.{get}
@@ -13,11 +13,11 @@ use Rattle.grid_types.specs.Slots.{slot_eq}
 use Rattle.grid_types.specs.Tokens.{Reservation, Closing, Ticket, is_good_ticket, is_good_reservation, is_good_closing}
 use Rattle.grid_types.specs.Calls.{Call, Reply}
 use Rattle.grid_types.specs.HandedIn.{hands_ticket, hands_reservation, hands_closing}
-use Rattle.grid_types.specs.HubAnswers.{hub, after_call}
+use Rattle.grid_types.specs.HubAnswers.{hub}
 use Rattle.token_laws.specs.Gives.{TokensComeFromReplies, gives_ticket, gives_reservation, gives_closing}
 use Rattle.hub_core.specs.Answers.{Answers}
 use Rattle.hub_core.specs.Serves.{Serves}
-use Rattle.hub_core.specs.HubView.{HubView, past, ServesLocally}
+use Rattle.hub_core.specs.HubView.{past}
 use Rattle.hub_core.specs.Replies.{failing_reply, ending_reply, polled_reply}
 use Rattle.hub_core.specs.declared.answers.Polled.{Polled}
 use Rattle.hub_core.specs.declared.answers.Polled.TheVariants as polled

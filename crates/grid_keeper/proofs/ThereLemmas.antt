@@ -15,7 +15,7 @@ use Rattle.grid_types.specs.Legal.{legal}
 use Rattle.grid_types.specs.Tokens.{is_good_ticket, is_good_reservation, is_good_closing, Ticket, Reservation, Closing}
 use Rattle.grid_types.specs.Calls.{Call, Reply}
 use Rattle.grid_types.specs.HandedIn.{hands_ticket, hands_reservation, hands_closing}
-use Rattle.grid_types.specs.HubAnswers.{hub, after_call}
+use Rattle.grid_types.specs.HubAnswers.{hub}
 use Rattle.token_laws.specs.Gives.{TokensComeFromReplies, gives_ticket, gives_reservation, gives_closing}
 use Rattle.hub_core.specs.Answers.{Answers}
 use Rattle.hub_core.specs.Replies.{registering_reply, beating_reply, draining_reply, removal_reply, touching_reply, failing_reply, enqueued_reply, polled_reply, dispatched_reply, binding_reply, ending_reply, expiring_reply}

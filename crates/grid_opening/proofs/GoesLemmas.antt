@@ -1,6 +1,6 @@
 -- How what an opening has goes on by one entry, and by several.
-use Rattle.std.proofs.Common.{◌≡◌, ◌⊎◌, inl, inr, ℕ, ◌+◌, ◌-◌, ◌^◌, ◌<◌, ◌≤◌, max, Bool, true, false, cond, ◌&&◌, nat_le, List, [], ◌∷◌, ◌++◌, length, reverse, flat_map, refl, sym, ◌∙◌, ap, subst, arith, append_assoc, append-nil}
-use Rattle.std.specs.Prelude.{Option, None, Some, Result, Ok, Err, is_err, option_map, IfErr, IfOk, IfSome, OnOk}
+use Rattle.std.proofs.Common.{◌≡◌, inl, inr, ℕ, ◌+◌, ◌-◌, ◌^◌, ◌<◌, ◌≤◌, max, Bool, true, false, cond, ◌&&◌, nat_le, List, [], ◌∷◌, ◌++◌, reverse, flat_map, refl, sym, ◌∙◌, ap, subst, arith, append_assoc, append-nil}
+use Rattle.std.specs.Prelude.{Option, None, Some, Result, Ok, Err, is_err, IfErr, IfOk, OnOk}
 use Rattle.std.proofs.lemmas.Bool.Decides.{nat_tests}
 use Rattle.std.proofs.lemmas.List.{reverse-append}
 use Rattle.std.proofs.lemmas.Grind.{flat_map-append}
@@ -29,7 +29,7 @@ use Rattle.grid_opening.specs.declared.fault.OpeningFault.TheVariants as fault
 use Rattle.grid_opening.specs.declared.fault.Unsettled.{Unsettled}
 use Rattle.grid_opening.specs.declared.opening.Opening.{Opening}
 use Rattle.grid_opening.specs.declared.finishing.Settled.{Settled}
-use Rattle.grid_opening.specs.Openings.{Entered, Enters, Hands, HandsOver, Holds, IsKept, Keeps, Leads, LeadsTo, Reason, SettlesTo, Went, WentGiven}
+use Rattle.grid_opening.specs.Openings.{Entered, Enters, Hands, HandsOver, Holds, Keeps, LeadsTo, Reason, SettlesTo, Went, WentGiven}
 use Rattle.grid_opening.specs.Settling.{Always, Closes, with_change}
 
 -- ---- the journal with one entry more

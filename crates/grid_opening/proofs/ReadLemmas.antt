@@ -1,35 +1,31 @@
 -- What the ledger's look-ups tell of whose a slot and a request is, and which entries can be read again.
-use Rattle.std.proofs.Common.{◌≡◌, ◌⊎◌, inl, inr, ℕ, ◌+◌, ◌<◌, ◌≤◌, Bool, true, false, cond, nat_eq, List, [], ◌∷◌, length, refl, sym, ◌∙◌, ap, subst, arith}
-use Rattle.std.specs.Prelude.{Option, None, Some, is_some, option_map}
+use Rattle.std.proofs.Common.{◌≡◌, ℕ, ◌≤◌, Bool, true, false, nat_eq, List, [], ◌∷◌, refl, sym, ◌∙◌, subst, arith}
+use Rattle.std.specs.Prelude.{Option, None, Some, is_some}
 use Rattle.std.proofs.lemmas.Bool.Decides.{nat_tests}
 use Rattle.grid_types.specs.declared.entry.Change.{Change}
 use Rattle.grid_types.specs.declared.entry.Change.TheVariants as change
 use Rattle.grid_types.specs.declared.entry.EndCause.TheVariants as cause
 use Rattle.grid_types.specs.declared.entry.Entry.{Entry}
 use Rattle.grid_types.specs.declared.entry.FailWhy.TheVariants as why
-use Rattle.grid_types.specs.declared.limits.TheConstants.{LAST_MOMENT}
 use Rattle.grid_types.specs.declared.names.Moment.{Moment}
 use Rattle.grid_types.specs.declared.names.SlotId.{SlotId}
 use Rattle.grid_types.specs.Lists.{or_else, when}
-use Rattle.grid_types.specs.Permitted.{is_asker, is_caller}
+use Rattle.grid_types.specs.Permitted.{is_asker}
 use Rattle.grid_types.specs.Requests.{Asked, Place, settled, asked_of, asked_told, is_unsettled, place}
-use Rattle.grid_types.specs.Slots.{Holder, free, held, busy, closing, holder, holder_told, is_closing, is_free, is_held_slot, owner}
+use Rattle.grid_types.specs.Slots.{Holder, holder, holder_told, owner}
 use Rattle.grid_types.specs.Tables.{entry}
 use Rattle.grid_types.specs.Told.{HasSlot}
-use Rattle.grid_journal.specs.declared.reading.TheConstants.{MOST_ENTRY_BYTES}
 use Rattle.grid_journal.specs.EntryReads.{IsEntry}
-use Rattle.grid_journal.specs.Fits.{AllFit, EntryFits, FitsEight, FitsFour, MomentFits, SlotFits}
-use Rattle.grid_journal.specs.Spelled.{entry_bytes}
+use Rattle.grid_journal.specs.Fits.{AllFit, FitsEight, FitsFour, MomentFits, SlotFits}
 use Rattle.grid_ledger.specs.LedgerStands.{AtMost}
 use Rattle.reservation.specs.declared.slot_use.SlotUse.{SlotUse}
-use Rattle.reservation.specs.declared.slot_use.SlotUse.TheVariants.{Free, Held, Busy, Closing}
+use Rattle.reservation.specs.declared.slot_use.SlotUse.TheVariants.{Held, Closing}
 use Rattle.reservation.specs.Table.{IsUseOf, holder_of}
 use Rattle.session_queue.specs.declared.request.Request.{Request}
-use Rattle.session_queue.specs.declared.request.Stage.{Stage}
-use Rattle.session_queue.specs.declared.request.Stage.TheVariants.{Waiting, Held as HeldStage, Settled}
+use Rattle.session_queue.specs.declared.request.Stage.TheVariants.{Settled}
 use Rattle.session_queue.specs.Table.{RowTells, is_gone, place_of}
 use Rattle.grid_opening.specs.declared.settling.SlotWork.TheVariants as work
-use Rattle.grid_opening.specs.Settling.{IsClosingOf, IsSettledOrGone, IsSlot, IsUntakenOf, TellsUntaken, is_untaken, wants}
+use Rattle.grid_opening.specs.Settling.{IsClosingOf, IsSettledOrGone, IsSlot, IsUntakenOf, is_untaken, wants}
 
 -- ---- whose a slot is
 

@@ -1,6 +1,6 @@
 -- Which slots and requests the loops of a settling have gone through.
-use Rattle.std.proofs.Common.{◌≡◌, ◌⊎◌, inl, inr, ℕ, zero, suc, ◌+◌, ◌<◌, ◌≤◌, Bool, true, false, ◌||◌, nat_eq, nat_le, nat_lt, List, [], ◌∷◌, length, refl, sym, ap, ◌∙◌, subst, arith}
-use Rattle.std.specs.Prelude.{Option, None, Some, is_some, option_map, unwrap_or}
+use Rattle.std.proofs.Common.{◌≡◌, ◌⊎◌, inl, inr, ℕ, zero, suc, ◌+◌, ◌<◌, ◌≤◌, Bool, true, false, ◌||◌, nat_eq, nat_lt, List, [], ◌∷◌, length, refl, sym, ap, ◌∙◌, subst, arith}
+use Rattle.std.specs.Prelude.{Option, None, Some, is_some, option_map}
 use Rattle.std.specs.List.{list_any}
 use Rattle.std.proofs.lemmas.Bool.Decides.{nat_tests}
 use Rattle.grid_types.specs.declared.entry.Entry.{Entry}
@@ -13,7 +13,7 @@ use Rattle.grid_types.specs.Lists.{numbers_from}
 use Rattle.grid_types.specs.History.{clock, requests, next_node, next_request, nodes}
 use Rattle.grid_types.specs.Nodes.{registration_of, stereotypes, stereotypes_of}
 use Rattle.grid_types.specs.Slots.{Holder, free, busy, held, closing, holder, is_free, is_held_slot, is_closing, has_slot_in_use}
-use Rattle.grid_types.specs.Requests.{Asked, Place, place, asked_of}
+use Rattle.grid_types.specs.Requests.{Asked, Place, place}
 use Rattle.grid_types.specs.Legal.{legal}
 use Rattle.grid_types.specs.Permitted.{is_caller, permitted}
 use Rattle.grid_types.specs.Tables.{entry}
@@ -22,7 +22,7 @@ use Rattle.session_queue.specs.declared.request.Request.{Request}
 use Rattle.session_queue.specs.Table.{is_gone, row}
 use Rattle.grid_ledger.specs.declared.ledger.GridLedger.{GridLedger}
 use Rattle.grid_ledger.specs.LedgerStands.{Stands}
-use Rattle.grid_ledger.specs.Open.{NoRequest, NoSlot, is_open}
+use Rattle.grid_ledger.specs.Open.{is_open}
 use Rattle.grid_opening.specs.declared.settling.SlotWork.{SlotWork}
 use Rattle.grid_opening.specs.declared.settling.SlotWork.TheVariants as work
 use Rattle.grid_opening.specs.declared.settling.RequestWork.{RequestWork}

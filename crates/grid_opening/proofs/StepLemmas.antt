@@ -1,6 +1,6 @@
 -- What one entry of a settling does to a history.
-use Rattle.std.proofs.Common.{◌≡◌, ◌⊎◌, inl, inr, ℕ, ◌+◌, ◌≤◌, max, Bool, true, false, not, ◌&&◌, ◌||◌, cond, nat_eq, nat_le, List, [], ◌∷◌, refl, sym, ◌∙◌, ap, subst, arith}
-use Rattle.std.specs.Prelude.{Option, None, Some, is_some, option_map}
+use Rattle.std.proofs.Common.{◌≡◌, ◌⊎◌, inl, inr, ℕ, ◌≤◌, Bool, true, false, not, ◌&&◌, cond, nat_eq, nat_le, List, [], ◌∷◌, refl, sym, ◌∙◌, ap, subst, arith}
+use Rattle.std.specs.Prelude.{Option, None, Some, is_some}
 use Rattle.std.proofs.lemmas.Bool.Decides.{nat_tests}
 use Rattle.grid_types.specs.declared.config.HubConfig.{HubConfig}
 use Rattle.grid_types.specs.declared.entry.Change.{Change}
@@ -13,19 +13,18 @@ use Rattle.grid_types.specs.declared.entry.Outcome.TheVariants as outcome
 use Rattle.grid_types.specs.declared.names.Moment.{Moment}
 use Rattle.grid_types.specs.declared.names.SlotId.{SlotId}
 use Rattle.grid_types.specs.Bindings.{bound_slot}
-use Rattle.grid_types.specs.History.{clock, nodes, requests}
+use Rattle.grid_types.specs.History.{clock}
 use Rattle.grid_types.specs.HistoryLaws.{Known, laws}
 use Rattle.grid_types.specs.Legal.{legal}
 use Rattle.grid_types.specs.Nodes.{address_of}
-use Rattle.grid_types.specs.Permitted.{bool_eq, has_slot, is_asker, is_caller, is_last, permitted}
+use Rattle.grid_types.specs.Permitted.{bool_eq, has_slot, is_last, permitted}
 use Rattle.grid_types.specs.Requests.{Place, unknown, waiting, held as held_place, settled, taken, asked_of, deadline_of, is_reserved, is_settled, is_taken, is_unsettled, is_waiting, outcome_of, place, place_by}
-use Rattle.grid_types.specs.Sessions.{is_live}
-use Rattle.grid_types.specs.Slots.{Holder, free, held, busy, closing, holder, is_closing, is_held_by, is_held_slot, names_slot, owner, slot_eq}
+use Rattle.grid_types.specs.Slots.{Holder, free, held, busy, closing, holder, is_closing, is_held_slot, names_slot, owner, slot_eq}
 use Rattle.grid_types.specs.Tables.{entry}
 use Rattle.session_queue.specs.Table.{is_gone}
 use Rattle.grid_opening.specs.declared.settling.SlotWork.{SlotWork}
 use Rattle.grid_opening.specs.declared.settling.SlotWork.TheVariants as work
-use Rattle.grid_opening.specs.Settling.{Clears, ClearsOne, Ends, IsRequest, IsSettledOrGone, IsSlot, IsUntakenOf, NoHeld, Passes, Stays, TakesGiven, is_untaken, wants, with_change}
+use Rattle.grid_opening.specs.Settling.{Clears, ClearsOne, Ends, IsRequest, IsSlot, IsUntakenOf, NoHeld, Passes, Stays, TakesGiven, is_untaken, wants, with_change}
 
 -- by whether the change may follow
 by_change : (c : HubConfig) (H : List Entry) (k : ℕ) (ch : Change) (R : List Entry → Type 0) →

@@ -1,5 +1,5 @@
 -- A conversation that ended before its input did is that of longer bytes too.
-use Rattle.std.proofs.Common.{◌≡◌, ◌≢◌, inl, inr, ℕ, ◌+◌, ◌-◌, ◌<◌, ◌≤◌, Bool, true, false, List, [], ◌∷◌, ◌++◌, length, refl, sym, ap, ◌∙◌, subst, arith, append-nil, length-append}
+use Rattle.std.proofs.Common.{◌≡◌, ◌≢◌, inl, inr, ℕ, ◌+◌, ◌-◌, ◌<◌, Bool, false, List, [], ◌∷◌, ◌++◌, length, refl, sym, ap, ◌∙◌, subst, arith, append-nil, length-append}
 use Rattle.httparse.specs.Grammar.{RequestHead}
 use Rattle.http_frames.specs.declared.FrameFault.{FrameFault}
 use Rattle.http_frames.specs.declared.frames.FrameLimits.{FrameLimits}
@@ -9,7 +9,7 @@ use Rattle.http_frames.specs.Frames.{Request, FramesFrom, IsEnd, IsWhole, IsRefu
 use Rattle.conn_script.specs.declared.wants.End.{End}
 use Rattle.conn_script.specs.declared.wants.End.TheVariants as ends
 use Rattle.conn_script.specs.declared.wants.TheConstants.{LIMIT}
-use Rattle.hub_conn.specs.Conversation.{BeginsWith, EndsSo, IsOpen, Talked, Waits, closed, asked, refused, cut, closed_at_limit, cut_at_limit, hub_spent}
+use Rattle.hub_conn.specs.Conversation.{BeginsWith, EndsSo, IsOpen, Waits, closed, asked, refused, cut, closed_at_limit, cut_at_limit, hub_spent}
 use Rattle.grid_play.specs.Talks.{TalksStand}
 use Rattle.grid_play.proofs.BehindLemmas.{rest_one}
 

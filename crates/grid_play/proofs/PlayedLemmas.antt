@@ -6,8 +6,6 @@ use Rattle.grid_types.specs.declared.entry.Entry.{Entry}
 use Rattle.grid_types.specs.Laws.{LegalHistoriesAreSafe}
 use Rattle.grid_types.specs.Legal.{legal}
 use Rattle.grid_outside.specs.Told.{ClockView, LinkView, Pauses, Tick}
-use Rattle.grid_outside.specs.declared.exchange.Ask.{Ask}
-use Rattle.grid_outside.specs.Exchanges.{Came}
 use Rattle.hub_core.specs.HubView.{HubView, past}
 use Rattle.node_client.specs.Runs.{Exchanges, Still, pauses_after}
 use Rattle.node_client.specs.Steps.{Step, Called, Spent, Exchanged, Paused}

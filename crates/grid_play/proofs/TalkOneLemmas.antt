@@ -4,7 +4,7 @@ use Rattle.std.proofs.lemmas.Bool.{false≢true}
 use Rattle.std.specs.Prelude.{◌≤◌, Some, Ok, nat_le}
 use Rattle.http_frames.specs.declared.frames.TheConstants.{LIMITS}
 use Rattle.http_frames.specs.Frames as on
-use Rattle.http_frames.specs.Frames.{Request, Frames, closes, expects}
+use Rattle.http_frames.specs.Frames.{Request, Frames}
 use Rattle.grid_types.specs.declared.config.HubConfig.{HubConfig}
 use Rattle.node_client.specs.Steps.{Step}
 use Rattle.conn_script.specs.Messages.{refusal}

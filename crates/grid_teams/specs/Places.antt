@@ -1,5 +1,5 @@
 -- The place of a name in a list of names.
-use Rattle.std.specs.Prelude.{◌≡◌, ◌≢◌, ◌+◌, ℕ, List, [], ◌∷◌, Option, None, Some, option_map, map, bytes_eq, if◌then◌else◌}
+use Rattle.std.specs.Prelude.{◌≢◌, ◌+◌, ℕ, List, [], ◌∷◌, Option, None, Some, option_map, map, bytes_eq, if◌then◌else◌}
 
 -- the names of a list
 abbrev pub names_by : {A : Type 0} → (A → List ℕ) → List A → List (List ℕ)

@@ -3,9 +3,8 @@ use Rattle.std.proofs.Common.{◌≡◌, inl, inr, ℕ, ◌+◌, ◌<◌, ◌≤
 use Rattle.std.specs.Prelude.{Option, None, Some}
 use Rattle.grid_outside.specs.Counts.{Rose}
 use Rattle.grid_outside.specs.Told.{Gains, SourceView}
-use Rattle.block_frames.specs.Blocks.{IsCut}
 use Rattle.block_frames.specs.Frames.{frame, framed, length_bytes}
-use Rattle.block_frames.specs.Inputs.{Reads, ReadsSome}
+use Rattle.block_frames.specs.Inputs.{Reads}
 use Rattle.grid_play.specs.Talks.{Standing}
 use Rattle.team_words.specs.declared.team_play.TeamPlay.{TeamPlay}
 use Rattle.grid_teams_top.specs.declared.playing.PlayingTeam.{PlayingTeam}
@@ -15,7 +14,7 @@ use Rattle.grid_teams_run.specs.declared.limits.TheConstants.{MOST_INPUT_BYTES}
 use Rattle.grid_teams_run.specs.declared.run_end.RunEnd.{RunEnd}
 use Rattle.grid_teams_run.specs.declared.run_end.RunEnd.TheVariants as ends
 use Rattle.grid_teams_run.specs.Statuses.{status_of}
-use Rattle.grid_teams_run.specs.Running.{EndsSo, RunView, RunsTo, ServesNext, HasServed, IsLongBlock}
+use Rattle.grid_teams_run.specs.Running.{EndsSo, RunView, RunsTo, ServesNext}
 use Rattle.grid_teams_run.specs.Steps.{AnswersSo, NextAnswered, NextMissing, NextSo, OutputView, ServesTo, SoFar, WritesSo}
 use Rattle.grid_teams_run.proofs.ServesLemmas.{framed_more, served_from, served_more, served_none}
 

@@ -1,11 +1,11 @@
 -- Blocks that are served, and one more behind them.
-use Rattle.std.proofs.Common.{◌≡◌, ◌≢◌, ℕ, ◌<◌, ◌≤◌, ◌^◌, List, [], ◌∷◌, ◌++◌, length, map, refl, sym, ap, ap₂, subst, ◌∙◌, append_assoc, append-nil}
+use Rattle.std.proofs.Common.{◌≡◌, ℕ, ◌<◌, ◌≤◌, ◌^◌, List, [], ◌∷◌, ◌++◌, length, map, refl, sym, ap, ap₂, subst, ◌∙◌, append_assoc, append-nil}
 use Rattle.std.specs.Prelude.{Option, None, Some}
 use Rattle.block_frames.specs.Frames.{frame, framed}
 use Rattle.grid_play.specs.Talks.{Standing}
 use Rattle.team_words.specs.declared.team_play.TeamPlay.{TeamPlay}
 use Rattle.grid_teams_top.specs.Apart.{ServesAll, ServesOne}
-use Rattle.grid_teams_top.specs.Blocks.{AllShort, AllWhose, ServesBlock, ServesBlocks}
+use Rattle.grid_teams_top.specs.Blocks.{AllShort, AllWhose, ServesBlock}
 use Rattle.grid_teams_top.specs.declared.playing.TheConstants.{MOST_BLOCK_BYTES}
 use Rattle.grid_teams_top.specs.Play.{Block, IsWhose, Serves, Unserved, names_of}
 use Rattle.grid_teams_run.specs.Running.{AllSized, HasServed}

@@ -1,12 +1,11 @@
 -- Teams that words say may start, and stand where they are said to when they have.
-use Rattle.std.proofs.Common.{◌≡◌, ℕ, zero, suc, ◌+◌, ◌<◌, ◌≤◌, ◌^◌, Bool, true, false, cond, List, [], ◌∷◌, ◌++◌, length, get_or, drop, refl, sym, ap, subst, ◌∙◌, arith, length-append, append_assoc, Result, Ok, Err, OnOk}
+use Rattle.std.proofs.Common.{◌≡◌, ℕ, zero, suc, ◌+◌, ◌≤◌, Bool, true, false, cond, List, [], ◌∷◌, ◌++◌, length, get_or, drop, refl, sym, ap, subst, ◌∙◌, arith, length-append, append_assoc, Result, Ok, Err, OnOk}
 use Rattle.std.specs.Prelude.{bytes_eq}
 use Rattle.play_words.specs.declared.play.PlayNode.{PlayNode}
-use Rattle.play_words.specs.Words.{SaysNode}
 use Rattle.grid_play.specs.Crew.{AllFit, IsFit}
 use Rattle.grid_play.specs.Talks.{SaidNodesFit}
 use Rattle.team_words.specs.declared.team_play.TeamPlay.{TeamPlay}
-use Rattle.team_words.specs.Teams.{TeamNode, all_put, put_in, team_of, with_node}
+use Rattle.team_words.specs.Teams.{TeamNode, all_put, put_in, with_node}
 use Rattle.team_words.specs.Words.{SaysTeamNodes, SaysTeams}
 use Rattle.grid_teams_top.specs.declared.playing.PlayingTeam.{PlayingTeam}
 use Rattle.grid_teams_top.specs.Blocks.{AllPlay, PlaysFor, standing_of, standings}

@@ -1,24 +1,14 @@
 -- A block that a team has served, and one that none has.
-use Rattle.std.proofs.Common.{◌≡◌, ◌≢◌, ℕ, zero, suc, ◌<◌, ◌≤◌, ◌^◌, ◌++◌, false, true, List, [], ◌∷◌, length, drop, take, refl, sym, ap, ◌∙◌, subst, arith, inl, inr, slice_get, slice_set, take-append-drop, append-nil}
-use Rattle.std.specs.Prelude.{Option, None, Some, Result, Ok, IfSome}
-use Rattle.httparse.specs.Grammar.{RequestHead}
-use Rattle.http_frames.specs.declared.FrameFault.{FrameFault}
-use Rattle.http_frames.specs.declared.frames.FrameLimits.{FrameLimits}
-use Rattle.http_frames.specs.declared.frames.TheConstants.{LIMITS}
-use Rattle.http_frames.specs.declared.reader.FrameReader.{FrameReader}
-use Rattle.http_frames.specs.Feeding.{Fed}
-use Rattle.http_frames.specs.Frames.{IsAccepted, IsRefused}
+use Rattle.std.proofs.Common.{◌≡◌, ℕ, ◌<◌, ◌≤◌, ◌^◌, ◌++◌, false, List, [], ◌∷◌, length, drop, take, refl, sym, ap, ◌∙◌, subst, arith, inl, inr, take-append-drop}
+use Rattle.std.specs.Prelude.{Option, Some, Ok, IfSome}
 use Rattle.grid_types.specs.Config.{default_config}
 use Rattle.grid_types.specs.declared.config.HubConfig.{HubConfig}
-use Rattle.grid_types.specs.declared.entry.Entry.{Entry}
-use Rattle.grid_outside.specs.Counts.{Rose}
 use Rattle.grid_outside.specs.Told.{ClockView, LinkView, Pauses, Tick}
 use Rattle.grid_outside.specs.declared.exchange.Ask.{Ask}
 use Rattle.grid_outside.specs.Exchanges.{Came}
 use Rattle.hub_core.specs.HubView.{HubView, past}
 use Rattle.node_client.specs.Runs.{Exchanges, Still, pauses_after}
 use Rattle.node_client.specs.Steps.{Step, Called, Spent, Exchanged, Paused}
-use Rattle.conn_script.specs.declared.wants.ConnFault.{ConnFault}
 use Rattle.conn_script.specs.declared.wants.End.{End}
 use Rattle.conn_script.specs.declared.wants.End.TheVariants as ends
 use Rattle.conn_script.specs.declared.wants.Served.{Served}
@@ -31,9 +21,8 @@ use Rattle.local_driver.specs.World.{Answered, world_of}
 use Rattle.loop_node.specs.declared.links.LoopNodes.{LoopNodes}
 use Rattle.loop_node.specs.LinkedNodes.{nodes_reached}
 use Rattle.loop_node.specs.Links.{NodesGive}
-use Rattle.loop_node.specs.Sessions.{Node}
 use Rattle.grid_play.specs.Crew.{first_crew}
-use Rattle.grid_play.specs.Talks.{AscendFrom, Standing, standing, Talks, TalksKeepNumbers, TalksStand}
+use Rattle.grid_play.specs.Talks.{AscendFrom, standing, Talks, TalksStand}
 use Rattle.grid_teams_top.specs.declared.block.BlockLink.{BlockLink}
 use Rattle.team_words.specs.declared.team_play.TeamPlay.{TeamPlay}
 use Rattle.grid_teams_top.specs.Blocks.{block_view, first_view}

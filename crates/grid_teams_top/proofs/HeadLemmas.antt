@@ -1,5 +1,5 @@
 -- What some bytes tell of the head at their front.
-use Rattle.std.proofs.Common.{◌≡◌, ◌≢◌, inl, inr, ℕ, ◌+◌, ◌≤◌, false, nat_lt, List, [], ◌++◌, take, drop, sym, ap, ◌∙◌, arith, append_assoc}
+use Rattle.std.proofs.Common.{◌≡◌, ℕ, ◌+◌, ◌≤◌, false, nat_lt, List, ◌++◌, take, drop, sym, ap, ◌∙◌, arith, append_assoc}
 use Rattle.std.proofs.Math.Seq.{take-add}
 use Rattle.httparse.specs.Grammar.{RequestHead}
 use Rattle.http_frames.specs.declared.frames.FrameLimits.{FrameLimits}

@@ -26,7 +26,7 @@ use Rattle.grid_teams.specs.declared.naming.TeamName.{TeamName}
 use Rattle.grid_teams.specs.declared.naming.TeamName.TheVariants as team
 use Rattle.grid_teams_top.specs.declared.playing.PlayingTeam.{PlayingTeam}
 use Rattle.team_words.specs.declared.team_play.TeamPlay.{TeamPlay}
-use Rattle.grid_teams.specs.declared.telling.TheConstants.{NOT_NAMED, NO_SUCH_TEAM}
+use Rattle.grid_teams.specs.declared.telling.TheConstants.{NOT_NAMED}
 use Rattle.grid_teams_top.specs.Apart.{ServesOne}
 use Rattle.grid_teams_top.specs.Blocks.{AllPlay, PlaysFor, ServedAt, ServedByName, ServesBlock, by_none, by_team, standing_of, standings}
 use Rattle.grid_teams_top.specs.Heads.{HasRead, IsHeadTold}

@@ -1,5 +1,5 @@
 -- What a block tells as a connection, and how it was served.
-use Rattle.std.specs.Prelude.{◌≡◌, ℕ, zero, suc, List, [], ◌∷◌, true, Option, None, Some, take, slice_get, slice_set, length, map, ◌≤◌}
+use Rattle.std.specs.Prelude.{◌≡◌, ℕ, zero, suc, List, [], ◌∷◌, true, None, Some, take, slice_get, slice_set, length, map, ◌≤◌}
 use Rattle.wd_bodies.specs.declared.code.ErrorCode.TheVariants as code
 use Rattle.conn_script.specs.Responses.{bytes_of, failure}
 use Rattle.grid_types.specs.Config.{default_config}

@@ -8,7 +8,6 @@ use Rattle.conn_script.specs.Responses.{bytes_of, failure}
 use Rattle.conn_script.specs.declared.wants.Served.{Served}
 use Rattle.hub_conn.specs.Conversation.{Finished}
 use Rattle.wd_bodies.specs.declared.code.ErrorCode.TheVariants as code
-use Rattle.play_words.specs.declared.play.PlayNode.{PlayNode}
 use Rattle.grid_play.specs.Crew.{first_crew}
 use Rattle.grid_play.specs.Talks.{AscendFrom, Standing, standing, Talks}
 use Rattle.grid_teams.specs.Naming.{IsTeamName}

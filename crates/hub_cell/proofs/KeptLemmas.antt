@@ -1,5 +1,5 @@
 -- What a turn makes of what is kept.
-use Rattle.std.proofs.Common.{◌≡◌, ◌∙◌, ℕ, Bool, true, false, List, [], ◌++◌, refl, sym, ap, subst, append-nil}
+use Rattle.std.proofs.Common.{◌≡◌, ◌∙◌, ℕ, Bool, false, List, [], ◌++◌, refl, sym, ap, subst, append-nil}
 use Rattle.std.specs.Prelude.{Option, None, Some, is_none, is_some, Result, Ok, Err, OnOk, OnErr, flat_map}
 use Rattle.grid_types.specs.declared.config.HubConfig.{HubConfig}
 use Rattle.grid_types.specs.declared.entry.Entry.{Entry}

@@ -1,13 +1,12 @@
 -- A call that finds no memory before it is made.
-use Rattle.std.proofs.Common.{◌≡◌, ℕ, true, List, refl, inr}
-use Rattle.std.specs.Prelude.{None, Ok}
+use Rattle.std.proofs.Common.{◌≡◌, ℕ, true, refl, inr}
+use Rattle.std.specs.Prelude.{None}
 use Rattle.grid_types.specs.Calls.{Call, Reply}
 use Rattle.grid_types.specs.HistoryLaws.{Known, laws}
 use Rattle.grid_types.specs.HubAnswers.{hub}
 use Rattle.hub_core.specs.declared.hub.HubCore.{HubCore}
 use Rattle.hub_core.specs.Answers.{may_lack}
 use Rattle.hub_core.specs.CoreStands.{CoreServes}
-use Rattle.hub_tellers.specs.Records.{TellsCall}
 use Rattle.hub_cell.specs.Lacking.{LacksAlone}
 use Rattle.hub_cell.proofs.KeptLemmas.{tells-none}
 

@@ -11,7 +11,7 @@ use Rattle.map_view.specs.declared.map.MapReader.{MapReader}
 use Rattle.map_view.specs.declared.rule.Known.{Known}
 use Rattle.map_view.specs.Knowing.{KnowsIn}
 use Rattle.map_view.specs.Lists.{listed, BeginsWith}
-use Rattle.map_view.specs.Maps.{known, Knows, KnowsNoLess}
+use Rattle.map_view.specs.Maps.{known, KnowsNoLess}
 use Rattle.turn_cell.specs.declared.views.View.{View}
 use Rattle.turn_cell.specs.Steps.{following}
 use Rattle.hub_cell.specs.declared.grid.Grid.{Grid}

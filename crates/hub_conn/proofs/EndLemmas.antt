@@ -6,7 +6,7 @@ use Rattle.http_frames.specs.declared.frames.TheConstants.{LIMITS}
 use Rattle.http_frames.specs.declared.frames.FrameLimits.{FrameLimits}
 use Rattle.http_frames.specs.declared.FrameFault.{FrameFault}
 use Rattle.http_frames.specs.Frames as on
-use Rattle.http_frames.specs.Frames.{Request, Frames, IsAccepted, IsAwaited, IsRefused}
+use Rattle.http_frames.specs.Frames.{Frames, IsAccepted, IsAwaited, IsRefused}
 use Rattle.node_client.specs.Steps.{Step, met_want}
 use Rattle.conn_script.specs.declared.wants.End.{End}
 use Rattle.conn_script.specs.declared.wants.End.TheVariants as ends

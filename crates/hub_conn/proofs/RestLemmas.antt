@@ -1,5 +1,5 @@
 -- That a connection stands for the same where it gave memory back.
-use Rattle.std.proofs.Common.{◌≡◌, ℕ, ◌≤◌, ◌++◌, List, [], length, drop, refl, sym, ap, ◌∙◌, subst, arith}
+use Rattle.std.proofs.Common.{◌≡◌, ℕ, ◌≤◌, ◌++◌, List, length, refl, sym, ap, ◌∙◌, arith}
 use Rattle.std.specs.Prelude.{Option}
 use Rattle.router_core.specs.declared.router.Router.{Router}
 use Rattle.http_frames.specs.declared.frames.TheConstants.{LIMITS}
@@ -14,7 +14,7 @@ use Rattle.hub_conn.specs.declared.talk.State.{State}
 use Rattle.hub_conn.specs.declared.talk.State.TheVariants as states
 use Rattle.hub_conn.specs.declared.talk.Then.{Then}
 use Rattle.hub_conn.specs.declared.talk.Then.TheVariants as after
-use Rattle.hub_conn.specs.Inbox.{unread, HasRead, Holds, HoldsSame, HoldsWhole}
+use Rattle.hub_conn.specs.Inbox.{unread, HasRead, HoldsSame}
 use Rattle.hub_conn.specs.Talk.{AtFront, InState, IsRested, IsWriting, Standing, Stands, StandsIn, awaited, blamed, held, is_fresh, leaves, tokens}
 use Rattle.hub_conn.specs.Work.{work}
 

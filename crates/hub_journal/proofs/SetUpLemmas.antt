@@ -1,5 +1,5 @@
 -- A hub that was opened is set up as its words say.
-use Rattle.std.proofs.Common.{◌≡◌, ◌⊎◌, inl, inr, ℕ, List, refl, sym, subst}
+use Rattle.std.proofs.Common.{inl, inr, ℕ, List, refl, sym, subst}
 use Rattle.std.specs.Prelude.{Option}
 use Rattle.grid_types.specs.declared.config.HubConfig.{HubConfig}
 use Rattle.journal_keeper.specs.declared.keeping.Keeping.{Keeping}

@@ -1,7 +1,6 @@
 -- How a link goes on by one read or write and by more of them, and what an answer to one adds.
 use Rattle.std.proofs.Common.{◌≡◌, ℕ, ◌≤◌, false, true, List, [], ◌++◌, length, refl, sym, ap, subst, ◌∙◌, arith}
 use Rattle.std.specs.Prelude.{Option}
-use Rattle.grid_outside.specs.Counts.{Rose}
 use Rattle.grid_outside.specs.Lines.{LooksSo}
 use Rattle.grid_outside.specs.Told.{Gains, LinkView}
 use Rattle.grid_outside.specs.StreamLaws.{gains_more, gains_none, rose_later, rose_on}

@@ -1,5 +1,5 @@
 -- From a history to the entries of a cell, the oldest first.
-use Rattle.std.proofs.Common.{◌≡◌, ℕ, ◌<◌, ◌≤◌, Bool, true, false, List, [], ◌∷◌, ◌++◌, refl, sym, ap, ◌∙◌, subst, append-nil, arith}
+use Rattle.std.proofs.Common.{◌≡◌, ℕ, ◌<◌, ◌≤◌, false, List, [], ◌∷◌, ◌++◌, refl, sym, ap, ◌∙◌, subst, append-nil, arith}
 use Rattle.std.specs.Prelude.{Option, None, Some, option_map, reverse, nat_eq, ◌==◌, IfSome, IfOk, OnOk, is_err, Result, Ok, Err}
 use Rattle.std.proofs.lemmas.List.{reverse-reverse, reverse-append}
 use Rattle.std.proofs.lemmas.List.Elements.{filter-append}
@@ -8,9 +8,9 @@ use Rattle.grid_types.specs.declared.entry.Entry.{Entry}
 use Rattle.grid_types.specs.History.{history_of}
 use Rattle.grid_journal.specs.Fits.{AllFit}
 use Rattle.grid_journal.specs.Spelled.{head_bytes, journal_bytes}
-use Rattle.journal_keeper.specs.Images.{WrittenIsJournal, written}
+use Rattle.journal_keeper.specs.Images.{WrittenIsJournal}
 use Rattle.journal_keeper.specs.Keeps.{Adds, Holds}
-use Rattle.grid_opening.specs.Openings.{IsKept, Keeps}
+use Rattle.grid_opening.specs.Openings.{Keeps}
 use Rattle.grid_ledger.specs.declared.ledger.GridLedger.{GridLedger}
 use Rattle.grid_ledger.specs.LedgerStands as of_ledger
 use Rattle.hub_core.specs.declared.hub.HubCore.{HubCore}

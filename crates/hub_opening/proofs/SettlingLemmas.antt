@@ -1,5 +1,5 @@
 -- What was read, through an opening's steps.
-use Rattle.std.proofs.Common.{◌≡◌, ℕ, ◌-◌, ◌^◌, ◌<◌, ◌≤◌, List, [], ◌∷◌, ◌++◌, sym, ap, ◌∙◌, subst}
+use Rattle.std.proofs.Common.{◌≡◌, ℕ, ◌-◌, ◌^◌, ◌≤◌, List, ◌++◌, sym, ◌∙◌, subst}
 use Rattle.grid_types.specs.declared.config.HubConfig.{HubConfig}
 use Rattle.grid_types.specs.declared.entry.Entry.{Entry}
 use Rattle.grid_journal.specs.Fits.{AllFit}
@@ -14,7 +14,7 @@ use Rattle.grid_opening.specs.declared.fault.OpeningFault.{OpeningFault}
 use Rattle.grid_opening.specs.declared.fault.OpeningFault.TheVariants as fault
 use Rattle.grid_opening.specs.declared.opening.Opening.{Opening}
 use Rattle.grid_opening.specs.declared.finishing.Settled.{Settled}
-use Rattle.grid_opening.specs.Openings.{HandsOver, Holds, Is, Keeps, Reason, SettlesTo}
+use Rattle.grid_opening.specs.Openings.{Holds, Is, Keeps, Reason, SettlesTo}
 use Rattle.grid_replay.specs.declared.replay.Replay.{Replay}
 use Rattle.grid_replay.specs.Replays.{Shows}
 use Rattle.hub_opening.specs.Handed.{Continues, HasRead, IsBefore, IsHanded, WhyNot}

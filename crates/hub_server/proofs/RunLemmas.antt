@@ -1,6 +1,5 @@
 -- How a run of the links goes on from what came before it.
-use Rattle.std.proofs.Common.{◌≡◌, ℕ, ◌-◌, ◌⊎◌, ◌∙◌, ap, arith, inl, inr}
-use Rattle.grid_outside.specs.Counts.{Rose}
+use Rattle.std.proofs.Common.{◌≡◌, ℕ, ◌⊎◌, ◌∙◌, ap, arith, inl, inr}
 use Rattle.grid_outside.specs.Told.{DoorView, NoneFell}
 use Rattle.grid_outside.specs.StreamLaws.{rose_later}
 use Rattle.hub_server.specs.declared.begins.Unbegun.{Unbegun}

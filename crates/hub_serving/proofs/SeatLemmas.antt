@@ -1,7 +1,7 @@
 -- What a step of a seat does, by what was wanted.
-use Rattle.std.proofs.Common.{◌≡◌, ℕ, Bool, true, false, List, [], ◌∷◌, refl, sym, ap, subst, ◌∙◌}
+use Rattle.std.proofs.Common.{◌≡◌, ℕ, Bool, true, false, List, refl, sym, ap, subst, ◌∙◌}
 use Rattle.std.specs.Prelude.{Option, None, Some, Result}
-use Rattle.grid_outside.specs.Told.{ClockView, LinkView, Tick, untold}
+use Rattle.grid_outside.specs.Told.{ClockView, LinkView, Tick}
 use Rattle.grid_outside.specs.declared.exchange.Ask.{Ask}
 use Rattle.grid_outside.specs.Exchanges.{Came, CameSo, ask_of}
 use Rattle.http_frames.specs.declared.writing.NodeRequest.{NodeRequest}

@@ -17,10 +17,10 @@ use Rattle.hub_workers.specs.World.{Knowledge, world_of}
 use Rattle.hub_serving.specs.declared.seats.Seat.{Seat}
 use Rattle.hub_serving.specs.Calls.{HasAll}
 use Rattle.hub_serving.specs.Outside.{Outside, outside_of}
-use Rattle.hub_serving.specs.Seats.{Sits, seen_by}
+use Rattle.hub_serving.specs.Seats.{Sits}
 use Rattle.hub_serving.specs.Serving.{EndedSo, Serving}
 use Rattle.hub_workers.specs.SharedClock.{SharedTells}
-use Rattle.hub_serving.specs.Tables.{IsSeated, IsServed, IsStill, SitsOn, first_of, now_of}
+use Rattle.hub_serving.specs.Tables.{IsServed, IsStill, SitsOn, first_of, now_of}
 
 module _ {L N S C : Type 0} (hub : SharedHub) (line_view : L → LinkView) (state : N → S) (gives : S → List ℕ → Ask → Came → S → Type 0)
     (asks : N → Option (List ℕ × Ask) → Type 0) (tells : C → Tick → ℕ → C → Type 0) (view : C → ClockView) where

@@ -1,5 +1,5 @@
 -- What one step of a connection does that shares its thread with others.
-use Rattle.std.specs.Prelude.{◌≡◌, ℕ, Bool, true, false, List, [], None, Some, Option, Result}
+use Rattle.std.specs.Prelude.{◌≡◌, ℕ, Bool, true, false, List, [], None, Some, Option}
 use Rattle.grid_outside.specs.Lines.{LooksSo}
 use Rattle.grid_outside.specs.Told.{ClockView, LinkView, Tick, untold}
 use Rattle.grid_outside.specs.declared.exchange.Ask.{Ask}

@@ -1,5 +1,5 @@
 -- What a store in memory tells.
-use Rattle.std.specs.Prelude.{ℕ, List, take, Option, Some, option_map}
+use Rattle.std.specs.Prelude.{ℕ, List, take, Option, option_map}
 use Rattle.hub_store.specs.declared.memory.MemStore.{MemStore}
 
 -- the bytes that it has given

@@ -1,5 +1,5 @@
 -- How a start's request stands behind its bind, and what the core lends of it then.
-use Rattle.std.proofs.Common.{◌≡◌, ℕ, max, Bool, true, false, List, [], ◌∷◌, refl, sym, ap, ◌∙◌, subst, arith, Result, Ok, Err}
+use Rattle.std.proofs.Common.{◌≡◌, ℕ, max, Bool, true, false, List, [], ◌∷◌, refl, sym, ap, ◌∙◌, subst, arith, Result}
 use Rattle.std.specs.Prelude.{Option, None, Some, cond, not, ◌&&◌, nat_eq, is_some}
 use Rattle.grid_types.specs.declared.config.HubConfig.{HubConfig}
 use Rattle.grid_types.specs.declared.capabilities.Cap.{Cap}
@@ -16,7 +16,7 @@ use Rattle.grid_types.specs.HubAnswers.{after_call, hub, moment}
 use Rattle.grid_types.specs.Legal.{legal}
 use Rattle.grid_types.specs.Lists.{earlier, or_else}
 use Rattle.grid_types.specs.Nodes.{is_base_up, address_of}
-use Rattle.grid_types.specs.Requests.{Place, held as held_place, place, place_by, is_taken, is_reserved, is_settled, outcome_of, outcome_told, asked_of, Asked}
+use Rattle.grid_types.specs.Requests.{held as held_place, place, place_by, is_taken, is_reserved, is_settled, outcome_of, outcome_told, asked_of}
 use Rattle.grid_types.specs.Slots.{holder, held}
 use Rattle.grid_types.specs.Tables.{entry}
 use Rattle.grid_types.specs.Tokens.{Reservation, is_good_reservation}

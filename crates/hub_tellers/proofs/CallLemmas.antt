@@ -1,6 +1,6 @@
 -- From what a teller promises to what a call of the core tells.
-use Rattle.std.proofs.Common.{◌≡◌, ℕ, max, Bool, true, false, List, [], refl, sym, ap, ◌∙◌, subst, inl, inr, arith, Result, Ok, Err}
-use Rattle.std.specs.Prelude.{Option, None, Some, IfSome, is_some, option_map, ◌&&◌}
+use Rattle.std.proofs.Common.{◌≡◌, ℕ, max, Bool, true, false, List, refl, ap, subst, inl, inr, arith, Result}
+use Rattle.std.specs.Prelude.{Option, None, Some, IfSome, is_some, option_map}
 use Rattle.grid_types.specs.declared.config.HubConfig.{HubConfig}
 use Rattle.grid_types.specs.declared.entry.Entry.{Entry}
 use Rattle.grid_types.specs.declared.entry.Outcome.{Outcome}

@@ -1,7 +1,6 @@
 -- What is told of the calls of nodes.
-use Rattle.std.proofs.Common.{◌≡◌, ℕ, Bool, true, false, List, [], ◌∷◌, refl, sym, ap, ◌∙◌, subst, Result, Ok, Err}
-use Rattle.std.specs.Prelude.{Option, None, Some, map}
-use Rattle.grid_types.specs.declared.config.HubConfig.{HubConfig}
+use Rattle.std.proofs.Common.{◌≡◌, ℕ, Bool, true, false, List, [], ◌∷◌, refl, sym, ap, ◌∙◌, subst, Result, Ok}
+use Rattle.std.specs.Prelude.{Option, Some, map}
 use Rattle.grid_types.specs.declared.capabilities.Registration.{Registration}
 use Rattle.grid_types.specs.declared.entry.Entry.{Entry}
 use Rattle.grid_types.specs.declared.entry.Change.TheVariants as change
@@ -22,7 +21,7 @@ use Rattle.hub_core.specs.declared.answers.Removal.TheVariants as removal
 use Rattle.hub_core.specs.Replies.{registering_reply, beating_reply, draining_reply, removal_reply}
 use Rattle.reply_laws.specs.Made.{CallsMake, register_made, beat_made, drain_made, remove_made}
 use Rattle.hub_tellers.specs.Tells.{Nothing, Tells}
-use Rattle.hub_tellers.proofs.TellLemmas.{one_told, nothing_told, tells, tells_none, tells_lack}
+use Rattle.hub_tellers.proofs.TellLemmas.{one_told, tells, tells_none, tells_lack}
 
 module _ (laws : CallsMake) (k : ℕ) (now : Moment) where
   pub register_told : (r : Registration) (a : Registering) (n : ℕ) (old new : List ℕ) (res : Result (Unit {0}) PieceFault) → a ≡ registering.Registered n →

@@ -1,12 +1,11 @@
 -- What is told of a call change by change.
-use Rattle.std.proofs.Common.{◌≡◌, ℕ, suc, ◌+◌, Bool, true, false, List, [], ◌∷◌, ◌++◌, length, refl, sym, ap, ◌∙◌, subst, arith, append_assoc, append-nil, Result, Ok, Err}
-use Rattle.std.specs.Prelude.{Option, None, Some, map, flat_map, IsOk}
+use Rattle.std.proofs.Common.{◌≡◌, ℕ, suc, ◌+◌, List, [], ◌∷◌, ◌++◌, length, refl, sym, ap, ◌∙◌, subst, arith, append_assoc, append-nil, Result, Ok, Err}
+use Rattle.std.specs.Prelude.{Some, map, flat_map, IsOk}
 use Rattle.std.proofs.lemmas.List.Concat.{flat_map-append}
-use Rattle.grid_types.specs.declared.config.HubConfig.{HubConfig}
 use Rattle.grid_types.specs.declared.entry.Entry.{Entry}
 use Rattle.grid_types.specs.declared.entry.Change.{Change}
 use Rattle.grid_types.specs.History.{after}
-use Rattle.grid_types.specs.HubAnswers.{hub, after_call}
+use Rattle.grid_types.specs.HubAnswers.{hub}
 use Rattle.grid_types.specs.Tables.{entry}
 use Rattle.grid_types.specs.Calls.{Call, Reply}
 use Rattle.grid_journal.specs.declared.piece.PieceFault.{PieceFault}
@@ -18,7 +17,6 @@ use Rattle.grid_journal.specs.Pieces.{Told}
 use Rattle.hub_core.specs.declared.hub.HubCore.{HubCore}
 use Rattle.hub_core.specs.CoreStands.{Stands, CoreServes}
 use Rattle.hub_core.specs.Recorded.{StandsHeld, RecordsCall}
-use Rattle.hub_core.specs.Serves.{MayCall}
 use Rattle.hub_tellers.specs.Tells.{ToldAll}
 use Rattle.hub_tellers.specs.Records.{Since, ToldSince, TellsCall}
 

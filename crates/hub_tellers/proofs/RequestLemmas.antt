@@ -1,7 +1,6 @@
 -- What is told of the calls of requests.
-use Rattle.std.proofs.Common.{◌≡◌, ℕ, Bool, true, false, List, [], ◌∷◌, refl, sym, ap, ◌∙◌, subst, Result, Ok, Err}
-use Rattle.std.specs.Prelude.{Option, None, Some, map, cond}
-use Rattle.grid_types.specs.declared.config.HubConfig.{HubConfig}
+use Rattle.std.proofs.Common.{◌≡◌, ℕ, Bool, true, false, List, [], ◌∷◌, refl, sym, ap, subst, Result, Ok}
+use Rattle.std.specs.Prelude.{Some, map, cond}
 use Rattle.grid_types.specs.declared.capabilities.Cap.{Cap}
 use Rattle.grid_types.specs.declared.entry.Entry.{Entry}
 use Rattle.grid_types.specs.declared.entry.Change.TheVariants as change

@@ -1,6 +1,6 @@
 -- What the core lends behind a call, by the history after it.
-use Rattle.std.proofs.Common.{◌≡◌, ℕ, max, Bool, true, false, List, [], ◌∷◌, ◌++◌, refl, sym, ap, ◌∙◌, subst, arith, Result, Ok, Err}
-use Rattle.std.specs.Prelude.{Option, None, Some, filter, nat_eq, ◌||◌}
+use Rattle.std.proofs.Common.{◌≡◌, ℕ, max, Bool, true, false, List, [], ◌∷◌, ◌++◌, refl, sym, ap, ◌∙◌, subst, arith, Result}
+use Rattle.std.specs.Prelude.{Some, filter, nat_eq, ◌||◌}
 use Rattle.std.specs.List.{list_any}
 use Rattle.grid_types.specs.declared.config.HubConfig.{HubConfig}
 use Rattle.grid_types.specs.declared.capabilities.Cap.{Cap}
@@ -27,7 +27,6 @@ use Rattle.hub_core.specs.declared.answers.Enqueued.{Enqueued}
 use Rattle.hub_core.specs.declared.answers.Enqueued.TheVariants as enqueued_by
 use Rattle.hub_core.specs.CoreStands.{Stands, CoreServes, CoreTells}
 use Rattle.hub_core.specs.Replies.{registering_reply, enqueued_reply}
-use Rattle.hub_core.specs.Serves.{MayCall}
 use Rattle.reply_laws.specs.Made.{CallsMake, Makes, register_made, enqueue_made}
 use Rattle.hub_tellers.specs.Tells.{Nothing, Tells}
 use Rattle.hub_tellers.specs.Records.{TellsCall}

@@ -1,5 +1,5 @@
 -- What is told of the calls of sessions that run.
-use Rattle.std.proofs.Common.{◌≡◌, ℕ, max, List, [], ◌∷◌, refl, sym, ap, ◌∙◌, subst, Result, Ok, Err}
+use Rattle.std.proofs.Common.{◌≡◌, ℕ, max, List, [], ◌∷◌, refl, sym, ap, subst, Result, Ok}
 use Rattle.std.specs.Prelude.{Option, None, Some, map, nat_lt}
 use Rattle.grid_types.specs.declared.config.HubConfig.{HubConfig}
 use Rattle.grid_types.specs.declared.names.SlotId.{SlotId}

@@ -1,5 +1,5 @@
 -- How turns go on that are made step by step.
-use Rattle.std.proofs.Common.{◌≡◌, inl, inr, ◌⊎◌, ℕ, ◌+◌, List, [], ◌∷◌, ◌++◌, refl, sym, ap, subst, ◌∙◌, append-nil, append_assoc, arith}
+use Rattle.std.proofs.Common.{◌≡◌, inl, inr, ◌⊎◌, ℕ, ◌+◌, List, [], ◌++◌, refl, sym, ap, subst, ◌∙◌, append-nil, append_assoc, arith}
 use Rattle.grid_types.specs.declared.spent.Spent as spent
 use Rattle.grid_outside.specs.Told.{ClockView, Tick, untold}
 use Rattle.grid_outside.specs.declared.exchange.Ask.{Ask}

@@ -1,6 +1,6 @@
 -- What is told of a worker that makes its turns step by step.
-use Rattle.std.proofs.Common.{◌≡◌, ℕ, ◌+◌, List, [], ◌∷◌, refl, subst}
-use Rattle.std.specs.Prelude.{Option, Some, None, IfSome}
+use Rattle.std.proofs.Common.{◌≡◌, ℕ, ◌+◌, List, subst}
+use Rattle.std.specs.Prelude.{Option, IfSome}
 use Rattle.grid_outside.specs.Told.{ClockView, Tick}
 use Rattle.grid_outside.specs.declared.exchange.Ask.{Ask}
 use Rattle.grid_outside.specs.Exchanges.{Came}

@@ -1,6 +1,6 @@
 -- One step of a worker that makes its turns step by step.
-use Rattle.std.proofs.Common.{◌≡◌, inl, inr, ◌⊎◌, ℕ, ◌<◌, true, List, [], ◌∷◌, ◌++◌, refl, sym, ap, subst, ◌∙◌, append-nil}
-use Rattle.std.specs.Prelude.{Option, Some, None, Ok}
+use Rattle.std.proofs.Common.{◌≡◌, inl, inr, ℕ, ◌<◌, List, [], ◌∷◌, ◌++◌, refl, sym, ap, subst, ◌∙◌, append-nil}
+use Rattle.std.specs.Prelude.{Option, Some, None}
 use Rattle.grid_types.specs.Tokens.{Reservation}
 use Rattle.grid_types.specs.Calls.{Call, Reply}
 use Rattle.grid_types.specs.declared.spent.Spent as spent
@@ -19,12 +19,12 @@ use Rattle.node_client.specs.declared.wants.CarryWant.{CarryWant}
 use Rattle.node_client.specs.declared.wants.CarryWant.TheVariants as wants
 use Rattle.node_client.specs.declared.carry.Carry.{Carry}
 use Rattle.node_client.specs.Steps.{Step, Called, Spent, Exchanged, Paused}
-use Rattle.node_client.specs.Places.{Place, Wanted, to_ask, to_call, Shows, wanted_at, made, asked_step, called_step, IsAsk, Fits, Moves}
+use Rattle.node_client.specs.Places.{Place, Wanted, to_call, Shows, wanted_at, made, asked_step, called_step, IsAsk, Fits, Moves}
 use Rattle.node_client.specs.StandLaws.{stands_leads}
-use Rattle.node_client.specs.Carrying.{Stands, HandsOut, Readies, Feeds, Moved, IsNew, is_fresh}
+use Rattle.node_client.specs.Carrying.{Stands, HandsOut, Readies, Feeds, Moved, IsNew}
 use Rattle.hub_workers.specs.Amid.{Goes}
 use Rattle.hub_workers.specs.Carried.{HasAt, IsUnder, spent_at}
-use Rattle.hub_workers.specs.Turns.{IsLastTicket, WorkerSpent, WorkerTurn, dispatch_lacks, dispatch_spent, finds_nothing, start_spent, starts, worker_pause}
+use Rattle.hub_workers.specs.Turns.{WorkerSpent, WorkerTurn, dispatch_lacks, dispatch_spent, finds_nothing, start_spent, starts, worker_pause}
 use Rattle.hub_workers.specs.WorkStages.{AsksSo, FindsNothing, StartsSo, WorkSays, Works, no_memory, nothing_there}
 use Rattle.hub_workers.specs.World.{AnswersAt, Knowledge, Went, World, world_of}
 use Rattle.hub_workers.specs.WorldLaws.{answers_at, went_call, went_exchange, went_none, went_pause, went_spent}

@@ -1,5 +1,5 @@
 -- What a crew did.
-use Rattle.std.specs.Prelude.{◌≡◌, ◌⊎◌, ℕ, true, List, ◌++◌, All, map, Option, Result, Ok, Err}
+use Rattle.std.specs.Prelude.{◌≡◌, ◌⊎◌, ℕ, true, List, ◌++◌, All, map, Result, Ok, Err}
 use mathlib.Core.List.{IsPrefix}
 use Rattle.grid_types.specs.Legal.{legal}
 use Rattle.grid_types.specs.Safe.{IsSafe}

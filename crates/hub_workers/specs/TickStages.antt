@@ -1,5 +1,5 @@
 -- What a ticker is at that makes its turns step by step, and one step of it.
-use Rattle.std.specs.Prelude.{◌≡◌, ℕ, Bool, true, false, List, [], ◌∷◌, ◌++◌, Option, None, Some}
+use Rattle.std.specs.Prelude.{◌≡◌, ℕ, true, false, List, [], ◌∷◌, ◌++◌, Option, None, Some}
 use Rattle.grid_types.specs.Tokens.{Closing}
 use Rattle.grid_types.specs.Calls.{Call, Reply}
 use Rattle.grid_outside.specs.Told.{ClockView, Tick}

@@ -1,11 +1,11 @@
 -- How the world goes on by single steps, and by steps one after the other; and what a pass counts.
 use Rattle.std.proofs.Common.{◌≡◌, inl, inr, ℕ, ◌+◌, List, [], ◌∷◌, ◌++◌, refl, sym, ap, subst, ◌∙◌, append-nil, append_assoc, arith}
-use Rattle.std.specs.Prelude.{Option, None, Some, IfSome}
+use Rattle.std.specs.Prelude.{Option, None, Some}
 use mathlib.Core.List.{IsPrefix}
 use Rattle.grid_types.specs.declared.entry.Entry.{Entry}
 use Rattle.grid_types.specs.Calls.{Call, Reply}
 use Rattle.grid_types.specs.declared.entry.Found.TheVariants as found
-use Rattle.grid_outside.specs.Told.{ClockView, Tick, Pauses, later_by, paused, to_tell, to_wait}
+use Rattle.grid_outside.specs.Told.{ClockView, Tick}
 use Rattle.grid_outside.specs.declared.exchange.Ask.{Ask}
 use Rattle.grid_outside.specs.Exchanges.{Came}
 use Rattle.grid_types.specs.declared.spent.Spent as spent
@@ -14,7 +14,7 @@ use Rattle.hub_cell.specs.Passes.{IsSpent, config_of}
 use Rattle.hub_cell.specs.Shared.{SharedServes, TookTurn}
 use Rattle.node_client.specs.ClockSteps.{Ticks, PausesFor, keeps_time_none}
 use Rattle.node_client.specs.Steps.{Step, Called, Spent, Exchanged, Paused, spent_looks}
-use Rattle.node_client.specs.Runs.{Clocked, Exchanges, Still, Timed, pauses_after, KeepsTime}
+use Rattle.node_client.specs.Runs.{Clocked, Exchanges, Still, Timed, pauses_after}
 use Rattle.node_client.specs.RunLaws.{clocked_more, exchanges_more, keeps_time_more}
 use Rattle.hub_workers.specs.World.{Answered, AnswersAt, FindsInMap, Knowledge, Went, World, world_of}
 

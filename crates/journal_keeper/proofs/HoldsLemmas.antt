@@ -1,13 +1,13 @@
 -- What stands there once entries were put behind a journal, in whole or in part.
-use Rattle.std.proofs.Common.{◌≡◌, ℕ, List, [], ◌++◌, refl, sym, ap, ◌∙◌, subst, Option, Some, None, IfSome, take, drop, append_assoc, append-nil, option_map}
-use Rattle.std.specs.Prelude.{flat_map, is_some, ◌≤◌, ◌+◌}
+use Rattle.std.proofs.Common.{◌≡◌, ℕ, List, [], ◌++◌, refl, sym, ap, ◌∙◌, subst, Option, Some, None, take, drop, append_assoc, append-nil, option_map}
+use Rattle.std.specs.Prelude.{flat_map, is_some, ◌+◌}
 use Rattle.std.proofs.lemmas.List.{take-append-drop}
 use Rattle.std.proofs.Math.Seq.{take-add}
 use Rattle.grid_types.specs.declared.config.HubConfig.{HubConfig}
 use Rattle.grid_types.specs.declared.entry.Entry.{Entry}
 use Rattle.grid_journal.specs.Spelled.{entry_bytes}
-use Rattle.journal_keeper.specs.Images.{written, IsImage}
-use Rattle.journal_keeper.specs.Keeps.{Adds, AddsFront, Holds, HoldsCut, PiecesGoOn, CutPiecesAreImages}
+use Rattle.journal_keeper.specs.Images.{IsImage}
+use Rattle.journal_keeper.specs.Keeps.{Adds, Holds, HoldsCut, PiecesGoOn, CutPiecesAreImages}
 use Rattle.journal_keeper.proofs.ImageLemmas.{fronts_are_images, written_more}
 
 done : Unit {0}

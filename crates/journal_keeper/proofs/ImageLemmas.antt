@@ -6,7 +6,7 @@ use Rattle.std.proofs.lemmas.List.Concat.{flat_map-append}
 use Rattle.grid_types.specs.declared.config.HubConfig.{HubConfig}
 use Rattle.grid_types.specs.declared.entry.Entry.{Entry}
 use Rattle.grid_journal.specs.Spelled.{entry_bytes, head_bytes}
-use Rattle.journal_keeper.specs.Images.{written, IsCutOf, IsImage, FrontsAreImages, MayLeave, KillsLeaveImages, WrittenIsJournal}
+use Rattle.journal_keeper.specs.Images.{written, IsCutOf, IsImage, FrontsAreImages, KillsLeaveImages, WrittenIsJournal}
 
 -- xs ends behind all of us, or within it
 data Split (xs ys us bs : List ℕ) : Type 0 where

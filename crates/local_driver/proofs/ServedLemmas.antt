@@ -5,7 +5,7 @@ use Rattle.grid_types.specs.declared.config.HubConfig.{HubConfig}
 use Rattle.grid_types.specs.declared.entry.Entry.{Entry}
 use Rattle.grid_types.specs.Legal.{legal}
 use Rattle.grid_types.specs.Calls.{Call}
-use Rattle.grid_outside.specs.Told.{Tick, LinkView}
+use Rattle.grid_outside.specs.Told.{Tick}
 use Rattle.grid_outside.specs.declared.exchange.Ask.{Ask}
 use Rattle.grid_outside.specs.Exchanges.{Came}
 use Rattle.hub_core.specs.HubView.{past}
@@ -21,7 +21,7 @@ use Rattle.conn_script.specs.declared.wants.End.TheVariants as ends
 use Rattle.conn_script.specs.declared.wants.Served.{Served}
 use Rattle.hub_conn.specs.declared.talk.Talk.{Talk}
 use Rattle.hub_conn.specs.SpentLaws.{SpentAtEnd, SpentLaws, is_hub_spent}
-use Rattle.hub_conn.specs.Talk.{Cause, IsNew, end_cause, result_cause}
+use Rattle.hub_conn.specs.Talk.{Cause, IsNew}
 use Rattle.hub_links.specs.Links.{RoseFor}
 use Rattle.local_driver.specs.World.{Answered}
 use Rattle.local_driver.specs.Served.{HasServed, Outside, ServedLocally}

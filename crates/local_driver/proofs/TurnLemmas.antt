@@ -37,7 +37,7 @@ use Rattle.conn_script.specs.Wanted.{Fits, IsAwaited, Made, Shows, Wanted, bytes
 use Rattle.hub_conn.specs.declared.talk.Talk.{Talk}
 use Rattle.hub_conn.specs.CallLaws.{CallLaws}
 use Rattle.hub_conn.specs.WantLaws.{WantLaws}
-use Rattle.hub_conn.specs.Talk.{Cause, Feeds, HandsOut, Says, Stands, Takes, blamed, cause_after, cause_of, held, leaves, result_cause, tokens}
+use Rattle.hub_conn.specs.Talk.{Cause, Feeds, HandsOut, Says, Stands, Takes, blamed, cause_after, cause_of, leaves, result_cause, tokens}
 use Rattle.hub_conn.specs.Work.{work}
 use Rattle.hub_links.specs.Links.{DoesLink, MovesSome, RoseFor}
 use Rattle.hub_links.specs.LinkLaws.{Adds, IsPlain, caused_on, few_bytes, plain_tokens, read_adds, write_adds}

@@ -1,16 +1,16 @@
 -- Steps that lead from one world to another, one behind the other.
-use Rattle.std.proofs.Common.{◌≡◌, ℕ, true, List, [], ◌∷◌, ◌++◌, refl, subst, ◌∙◌, arith, inl, inr, sym, ap}
-use Rattle.std.specs.Prelude.{Option, None, Some, IfSome}
+use Rattle.std.proofs.Common.{◌≡◌, ℕ, true, List, [], ◌∷◌, ◌++◌, refl, subst, ◌∙◌, arith, inl, inr}
+use Rattle.std.specs.Prelude.{Option, None, Some}
 use Rattle.grid_types.specs.declared.config.HubConfig.{HubConfig}
 use Rattle.grid_types.specs.declared.entry.Entry.{Entry}
 use Rattle.grid_types.specs.Calls.{Call, Reply}
-use Rattle.grid_outside.specs.Told.{ClockView, Tick, Pauses, later_by, paused, to_tell, to_wait}
+use Rattle.grid_outside.specs.Told.{ClockView, Tick}
 use Rattle.grid_outside.specs.declared.exchange.Ask.{Ask}
 use Rattle.grid_outside.specs.Exchanges.{Came}
 use Rattle.hub_core.specs.Answers.{Answers}
 use Rattle.hub_core.specs.HubView.{HubView, past, ServesLocally}
 use Rattle.node_client.specs.ClockSteps.{Ticks, PausesFor, keeps_time_none}
-use Rattle.node_client.specs.Runs.{Clocked, Exchanges, Still, Timed, pauses_after, KeepsTime}
+use Rattle.node_client.specs.Runs.{Clocked, Exchanges, Still, Timed, pauses_after}
 use Rattle.node_client.specs.RunLaws.{clocked_more, exchanges_more, keeps_time_more}
 use Rattle.node_client.specs.Steps.{Step, Called, Spent, Exchanged, Paused}
 use Rattle.local_driver.specs.World.{AnswersAt, Answered, World, Went, world_of, wants_room}

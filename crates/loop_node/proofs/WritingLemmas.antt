@@ -6,7 +6,6 @@ use Rattle.std.proofs.Math.Seq.{take-add}
 use Rattle.std.proofs.lemmas.Grind.{common_steps}
 use Rattle.http_frames.specs.declared.replies.NodeReply.{NodeReply}
 use Rattle.http_frames.specs.Writing.{optional_line, response_bytes, has_no_body, length_line}
-use Rattle.grid_outside.specs.Counts.{Rose}
 use Rattle.grid_outside.specs.Told.{Gains, LinkView}
 use Rattle.grid_outside.specs.Exchanges.{lent}
 use Rattle.grid_outside.specs.StreamLaws.{gains_more, gains_none}

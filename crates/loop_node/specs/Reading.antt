@@ -1,7 +1,7 @@
 -- What the body of a request says to the node.
 use Rattle.std.specs.Prelude.{ℕ, List, length, Option, Some, None, if◌then◌else◌, nat_le, codes, IsUtf8}
 use Rattle.grid_types.specs.Capabilities.{json_string}
-use Rattle.json_spans.specs.Grammar.{Tree, object}
+use Rattle.json_spans.specs.Grammar.{Tree}
 use Rattle.json_spans.specs.Inside.{Pair}
 use Rattle.json_spans.specs.Parts.{IsText}
 use Rattle.json_spans.specs.Cut.{Refuses}

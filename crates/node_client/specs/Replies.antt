@@ -3,7 +3,7 @@
 use Rattle.std.specs.Prelude.{ℕ, Bool, true, false, ◌==◌, List, [], length, map, Option, None, Some, codes, IsUtf8}
 use Rattle.grid_types.specs.declared.capabilities.Cap.{Cap}
 use Rattle.grid_types.specs.Names.{is_session_name}
-use Rattle.json_spans.specs.Grammar.{Tree, object}
+use Rattle.json_spans.specs.Grammar.{Tree}
 use Rattle.json_spans.specs.Parts.{IsText}
 use Rattle.json_spans.specs.Cut.{Refuses}
 use Rattle.json_spans.specs.declared.fault.JsonFault.{JsonFault}

@@ -1,7 +1,7 @@
 -- What holds of steps and then of more steps holds of both together.
 use Rattle.std.proofs.Common.{◌≡◌, ℕ, ◌≤◌, List, [], ◌∷◌, ◌++◌, refl, sym, ap, subst, ◌∙◌, arith}
 use Rattle.std.specs.Prelude.{Option, None, Some, IfSome}
-use Rattle.grid_outside.specs.Told.{later_by, Pauses, paused, ClockView, Tick, to_tell, to_wait}
+use Rattle.grid_outside.specs.Told.{later_by, Pauses, paused, ClockView, Tick}
 use Rattle.grid_outside.specs.declared.exchange.Ask.{Ask}
 use Rattle.grid_outside.specs.Exchanges.{Came}
 use Rattle.grid_types.specs.declared.config.HubConfig.{HubConfig}

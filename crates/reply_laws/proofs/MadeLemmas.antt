@@ -7,7 +7,6 @@ use Rattle.grid_types.specs.declared.entry.Change.TheVariants as change
 use Rattle.grid_types.specs.declared.entry.EndCause.TheVariants as cause
 use Rattle.grid_types.specs.declared.entry.Outcome.{Outcome}
 use Rattle.grid_types.specs.declared.entry.Outcome.TheVariants as outcome
-use Rattle.grid_types.specs.declared.names.Moment.{Moment}
 use Rattle.grid_types.specs.declared.capabilities.Cap.{Cap}
 use Rattle.grid_types.specs.declared.capabilities.Registration.{Registration}
 use Rattle.grid_types.specs.Capabilities.{request_bytes}

@@ -1,5 +1,5 @@
 -- What the calls made that spend a reservation.
-use Rattle.std.proofs.Common.{◌≡◌, ℕ, Bool, true, false, cond, not, ◌&&◌, max, List, [], ◌∷◌, refl, sym, ap, ◌∙◌, subst, arith}
+use Rattle.std.proofs.Common.{◌≡◌, ℕ, Bool, true, false, cond, not, ◌&&◌, max, List, [], ◌∷◌, refl, sym, ap, arith}
 use Rattle.std.specs.Prelude.{Option, None, Some, nat_eq, is_some}
 use Rattle.grid_types.specs.declared.config.HubConfig.{HubConfig}
 use Rattle.grid_types.specs.declared.entry.Entry.{Entry}
@@ -20,8 +20,8 @@ use Rattle.grid_types.specs.Permitted.{is_last, wanted_of}
 use Rattle.grid_types.specs.Tables.{entry}
 use Rattle.grid_types.specs.Tokens.{Reservation}
 use Rattle.grid_types.specs.Calls.{Call, Reply}
-use Rattle.grid_types.specs.HubAnswers.{Answer, bound_by, drain_after_bind, failed, hub, moment}
-use Rattle.reply_laws.specs.Made.{Makes, bind_made, fail_made, is_refusal}
+use Rattle.grid_types.specs.HubAnswers.{Answer, bound_by, hub, moment}
+use Rattle.reply_laws.specs.Made.{Makes, bind_made, fail_made}
 
 same_number : (n : ℕ) → nat_eq n n ≡ true
 same_number n = grind arith

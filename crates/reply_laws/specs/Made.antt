@@ -17,7 +17,7 @@ use Rattle.grid_types.specs.Nodes.{is_base_up}
 use Rattle.grid_types.specs.Requests.{is_settled}
 use Rattle.grid_types.specs.Tokens.{Ticket, Reservation, Closing}
 use Rattle.grid_types.specs.Calls.{Call, Reply}
-use Rattle.grid_types.specs.HubAnswers.{Answer, after_call, hub, idle_bindings, moment}
+use Rattle.grid_types.specs.HubAnswers.{after_call, hub, idle_bindings, moment}
 
 abbrev pub register_made : Registration → Moment → Reply → List Change
 register_made registration now (Reply.registered node) = change.Registered node registration now ∷ []

@@ -1,6 +1,5 @@
 -- What a keeper tells of its disk: its rows, and each image that a crash might have left.
-use Rattle.std.specs.Prelude.{◌≡◌, ◌⊎◌, ℕ, slice_get, ◌≤◌, ◌-◌, List, [], ◌∷◌, ◌++◌, length, take, Option, None, Some, IfSome, Result, Ok, Err}
-use Rattle.row_keeper.specs.declared.keeper.KeepFault.{KeepFault}
+use Rattle.std.specs.Prelude.{◌≡◌, ◌⊎◌, ℕ, slice_get, ◌-◌, List, [], ◌∷◌, ◌++◌, length, take, Option, None, Some, IfSome}
 
 -- The rows, the oldest first: while no call runs a crash leaves just these. And what a crash might have left at each moment
 -- before, the newest first.

@@ -1,5 +1,5 @@
 -- The disk of a keeper in memory: what its calls made of it.
-use Rattle.std.specs.Prelude.{◌≡◌, ℕ, Bool, true, false, List, [], ◌∷◌, ◌++◌, reverse}
+use Rattle.std.specs.Prelude.{ℕ, Bool, true, false, List, [], ◌∷◌, ◌++◌, reverse}
 use Rattle.row_keeper.specs.Disks.{Disk}
 use Rattle.row_keeper.specs.declared.mem_keeper.KeepCall.{KeepCall}
 use Rattle.row_keeper.specs.declared.mem_keeper.Planned.{Planned}

@@ -1,5 +1,5 @@
 -- Words that tell no journal.
-use Rattle.std.proofs.Common.{◌≡◌, ◌∙◌, Bool, List, false, true, ap, sym}
+use Rattle.std.proofs.Common.{◌≡◌, ◌∙◌, List, false, true, ap, sym}
 use Rattle.clap.specs.Words.{Text}
 use Rattle.server_words.specs.Journals.{TellsJournal, is_sync, sync_said}
 

@@ -1,9 +1,7 @@
 -- What a text names around its first `=`.
-use Rattle.std.proofs.Common.{◌≡◌, ◌∙◌, ◌<◌, ◌++◌, ℕ, List, [], ◌∷◌, Bool, true, false, length, refl, sym, ap, arith}
-use Rattle.std.specs.Prelude.{Option, None, Some, is_some, nat_lt, MatchOption, if◌then◌else◌}
-use Rattle.std.specs.Borrow.{Bor}
+use Rattle.std.proofs.Common.{◌≡◌, ◌∙◌, ◌<◌, ℕ, List, [], ◌∷◌, Bool, true, false, length, refl, sym, ap, arith}
+use Rattle.std.specs.Prelude.{None, is_some, nat_lt, if◌then◌else◌}
 use Rattle.std.specs.List.{after_first, before_first, position_or_len}
-use Rattle.grid_types.specs.declared.capabilities.Cap.{Cap}
 use Rattle.server_words.specs.OwnCapabilities.{has_equals, is_equals, named_cap, own_cap}
 
 less : (m n : ℕ) → m < n → nat_lt m n ≡ true

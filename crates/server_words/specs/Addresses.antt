@@ -1,5 +1,5 @@
 -- The address of a hub or a driver, as it may be written: HOST:PORT, with `http://` in front or `/` behind.
-use Rattle.std.specs.Prelude.{◌&&◌, ◌||◌, ◌==◌, ◌-◌, ◌+◌, ◌*◌, ℕ, Bool, false, not, nat_le, nat_lt, List, [], ◌∷◌}
+use Rattle.std.specs.Prelude.{◌&&◌, ◌==◌, ◌-◌, ◌+◌, ◌*◌, ℕ, Bool, false, not, nat_le, nat_lt, List, [], ◌∷◌}
 use Rattle.std.specs.Prelude.{length, take, slice_get, Option, None, Some, codes, if◌then◌else◌}
 use Rattle.std.specs.Char.{is_ascii_digit}
 use Rattle.std.specs.List.{list_all, list_any}

@@ -1,5 +1,5 @@
 -- Three words for each node.
-use Rattle.std.proofs.Common.{◌≡◌, ℕ, ◌+◌, ◌<◌, ◌≤◌, Bool, false, true, List, [], ◌∷◌, ◌++◌, length, get_or, take, drop, codes, refl, sym, ap, ap₂, subst, ◌∙◌, arith, append-nil, append_assoc, zero, suc, cond, slice_get, slice_set, Result, Ok, Err, OnOk, IfErr, IfOk, not}
+use Rattle.std.proofs.Common.{◌≡◌, ℕ, ◌+◌, ◌<◌, ◌≤◌, Bool, false, true, List, [], ◌∷◌, ◌++◌, length, get_or, drop, codes, refl, sym, ap, ap₂, subst, ◌∙◌, arith, zero, suc, cond, slice_get, slice_set, Result, Ok, Err, OnOk, IfErr, IfOk, not}
 use Rattle.std.specs.Prelude.{Option, None, Some, bytes_eq, option_map}
 use Rattle.grid_teams.specs.Places.{names_by, place_of}
 use Rattle.std.specs.Result.{is_err}

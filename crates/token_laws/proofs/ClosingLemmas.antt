@@ -1,5 +1,5 @@
 -- Closings come from the replies of bind, end and expire.
-use Rattle.std.proofs.Common.{◌≡◌, ◌⊎◌, ℕ, Bool, true, false, cond, ◌&&◌, ◌||◌, nat_eq, nat_le, nat_lt, List, [], ◌∷◌, ◌++◌, map, refl, sym, ◌∙◌, ap, subst, arith, inl, inr, Option, None, Some, find, is_some}
+use Rattle.std.proofs.Common.{◌≡◌, ◌⊎◌, ℕ, Bool, true, false, cond, ◌&&◌, ◌||◌, nat_eq, nat_le, nat_lt, List, [], ◌∷◌, ◌++◌, map, refl, ◌∙◌, subst, arith, inl, inr, Option, None, Some, find, is_some}
 use Rattle.std.specs.List.{list_any}
 use Rattle.std.specs.Prelude.{unwrap_or}
 use Rattle.grid_types.specs.declared.config.HubConfig.{HubConfig}
@@ -15,20 +15,20 @@ use Rattle.grid_types.specs.declared.entry.Outcome.TheVariants as outcome
 use Rattle.grid_types.specs.declared.capabilities.Cap.{Cap}
 use Rattle.grid_types.specs.declared.capabilities.Registration.{Registration}
 use Rattle.grid_types.specs.declared.names.SlotId.{SlotId}
-use Rattle.grid_types.specs.History.{after, clock, nodes}
+use Rattle.grid_types.specs.History.{after, nodes}
 use Rattle.grid_types.specs.Legal.{legal}
 use Rattle.grid_types.specs.Laws.{LiveIsRunning}
 use Rattle.grid_types.specs.Lists.{least, when, or_else}
-use Rattle.grid_types.specs.Slots.{Holder, slot_eq, holder, owner, holder_told, is_closing, names_slot}
+use Rattle.grid_types.specs.Slots.{Holder, slot_eq, holder, owner, holder_told, is_closing}
 use Rattle.grid_types.specs.Requests.{outcome_of, deadline_of, waiting_requests}
-use Rattle.grid_types.specs.Bindings.{Running, bound_of, bound_slot}
+use Rattle.grid_types.specs.Bindings.{Running, bound_of}
 use Rattle.grid_types.specs.Sessions.{IsRunning, live}
 use Rattle.grid_types.specs.Choice.{Assignment, chosen}
 use Rattle.grid_types.specs.Permitted.{is_named, is_caller, is_last}
 use Rattle.grid_types.specs.Tokens.{Closing, is_good_closing, closing_of}
 use Rattle.grid_types.specs.Calls.{Call, Reply}
 use Rattle.grid_types.specs.HandedIn.{hands_closing}
-use Rattle.grid_types.specs.HubAnswers.{Answer, says, makes, moment, register_by, drained, enqueued, polled, polled_open, withdrawn, reserves, dispatched, bound_by, refused_reply, refusal_of, drain_after_bind, failed, at_binding, is_binding, closes, expired_by, idle_bindings, lapses, lapsed_nodes, suspicions, silent_nodes, time_outs, overdue_requests, removals, drained_nodes, swept, cleared, hub, answer, after_call}
+use Rattle.grid_types.specs.HubAnswers.{Answer, says, makes, moment, register_by, drained, enqueued, polled, polled_open, withdrawn, dispatched, bound_by, refused_reply, refusal_of, failed, at_binding, is_binding, closes, expired_by, idle_bindings, lapses, lapsed_nodes, suspicions, silent_nodes, time_outs, overdue_requests, removals, drained_nodes, swept, cleared, hub, answer}
 use Rattle.token_laws.specs.Gives.{gives_closing, ClosingsComeFromReplies}
 
 -- a change that leaves some slot closing

@@ -1,5 +1,5 @@
 -- Reservations come from the replies of dispatch and poll.
-use Rattle.std.proofs.Common.{◌≡◌, ◌⊎◌, ℕ, max, Bool, true, false, not, cond, ◌&&◌, ◌||◌, nat_eq, nat_le, nat_lt, List, [], ◌∷◌, ◌++◌, map, refl, sym, ◌∙◌, ap, subst, arith, inl, inr, Option, None, Some, find, is_some}
+use Rattle.std.proofs.Common.{◌≡◌, ◌⊎◌, ℕ, Bool, true, false, cond, ◌&&◌, ◌||◌, nat_eq, nat_le, nat_lt, List, [], ◌∷◌, ◌++◌, map, refl, arith, inl, inr, Option, None, Some, find, is_some}
 use Rattle.std.specs.List.{list_any}
 use Rattle.std.specs.Prelude.{unwrap_or}
 use Rattle.grid_types.specs.declared.config.HubConfig.{HubConfig}
@@ -13,7 +13,7 @@ use Rattle.grid_types.specs.declared.entry.Outcome.TheVariants as outcome
 use Rattle.grid_types.specs.declared.capabilities.Cap.{Cap}
 use Rattle.grid_types.specs.declared.capabilities.Registration.{Registration}
 use Rattle.grid_types.specs.declared.names.SlotId.{SlotId}
-use Rattle.grid_types.specs.History.{after, clock, nodes}
+use Rattle.grid_types.specs.History.{after, nodes}
 use Rattle.grid_types.specs.Lists.{least, when, or_else}
 use Rattle.grid_types.specs.Slots.{Holder, slot_eq, holder, owner, holder_told, is_held_by}
 use Rattle.grid_types.specs.Requests.{outcome_of, deadline_of, waiting_requests}
@@ -24,7 +24,7 @@ use Rattle.grid_types.specs.Permitted.{is_named, is_caller}
 use Rattle.grid_types.specs.Tokens.{is_good_reservation, ticket_of}
 use Rattle.grid_types.specs.Calls.{Call, Reply}
 use Rattle.grid_types.specs.HandedIn.{hands_reservation}
-use Rattle.grid_types.specs.HubAnswers.{Answer, says, moment, makes, reserved, register_by, drained, enqueued, polled, polled_open, withdrawn, reserves, dispatched, bound_by, refusal_of, drain_after_bind, failed, at_binding, is_binding, closes, expired_by, idle_bindings, lapses, lapsed_nodes, suspicions, silent_nodes, time_outs, overdue_requests, removals, drained_nodes, swept, cleared, hub, answer, after_call}
+use Rattle.grid_types.specs.HubAnswers.{Answer, says, moment, makes, reserved, register_by, drained, enqueued, polled, polled_open, withdrawn, reserves, dispatched, bound_by, refusal_of, drain_after_bind, failed, is_binding, closes, expired_by, idle_bindings, lapses, lapsed_nodes, suspicions, silent_nodes, time_outs, overdue_requests, removals, drained_nodes, swept, cleared, hub, answer}
 use Rattle.token_laws.specs.Gives.{gives_reservation, ReservationsComeFromReplies}
 
 -- a change that reserves the slot for the request

@@ -1,5 +1,5 @@
 -- Tickets come from the replies of enqueue and poll.
-use Rattle.std.proofs.Common.{◌≡◌, ◌⊎◌, ℕ, max, Bool, true, false, not, cond, ◌&&◌, ◌||◌, nat_eq, nat_le, nat_lt, List, [], ◌∷◌, ◌++◌, map, refl, sym, ◌∙◌, ap, subst, arith, inl, inr, Option, None, Some, find}
+use Rattle.std.proofs.Common.{◌≡◌, ◌⊎◌, ℕ, Bool, true, false, cond, ◌||◌, nat_eq, nat_le, nat_lt, List, [], ◌∷◌, ◌++◌, map, refl, arith, inl, inr, Option, None, Some, find}
 use Rattle.std.specs.List.{list_any}
 use Rattle.grid_types.specs.declared.config.HubConfig.{HubConfig}
 use Rattle.grid_types.specs.declared.entry.Entry.{Entry}
@@ -12,7 +12,7 @@ use Rattle.grid_types.specs.declared.entry.Outcome.TheVariants as outcome
 use Rattle.grid_types.specs.declared.capabilities.Cap.{Cap}
 use Rattle.grid_types.specs.declared.capabilities.Registration.{Registration}
 use Rattle.grid_types.specs.declared.names.SlotId.{SlotId}
-use Rattle.grid_types.specs.History.{after, clock, nodes}
+use Rattle.grid_types.specs.History.{after, nodes}
 use Rattle.grid_types.specs.Lists.{least}
 use Rattle.grid_types.specs.Requests.{place, is_waiting, outcome_of, deadline_of, waiting_requests}
 use Rattle.grid_types.specs.Bindings.{Running, bound_of}
@@ -22,7 +22,7 @@ use Rattle.grid_types.specs.Permitted.{is_named}
 use Rattle.grid_types.specs.Tokens.{is_good_ticket, ticket_of}
 use Rattle.grid_types.specs.Calls.{Call, Reply}
 use Rattle.grid_types.specs.HandedIn.{hands_ticket}
-use Rattle.grid_types.specs.HubAnswers.{Answer, says, moment, register_by, drained, enqueued, polled, polled_open, withdrawn, reserves, dispatched, bound_by, refusal_of, drain_after_bind, failed, at_binding, is_binding, closes, expired_by, idle_bindings, lapses, lapsed_nodes, suspicions, silent_nodes, time_outs, overdue_requests, removals, drained_nodes, swept, cleared, hub, answer, after_call}
+use Rattle.grid_types.specs.HubAnswers.{Answer, says, moment, register_by, drained, enqueued, polled, polled_open, withdrawn, dispatched, bound_by, refusal_of, failed, is_binding, closes, expired_by, idle_bindings, lapses, lapsed_nodes, suspicions, silent_nodes, time_outs, overdue_requests, removals, drained_nodes, swept, cleared, hub, answer}
 use Rattle.token_laws.specs.Gives.{gives_ticket, TicketsComeFromReplies}
 
 -- a change that queues the request

@@ -1,6 +1,5 @@
-use Rattle.std.proofs.Common.{◌∙◌, ap, sym, subst, ℕ, List}
-use Rattle.grid_outside.specs.declared.exchange.Ask.{Ask}
-use Rattle.node_client.specs.Asks.{session_path, with_path, quit_ask}
+use Rattle.std.proofs.Common.{◌∙◌, ap, sym}
+use Rattle.node_client.specs.Asks.{session_path, with_path}
 use Rattle.grid_keeper.proofs.QuitLemmas.{quits_one}
 use Rattle.grid_keeper.proofs.settling.ask_to_end.Goals as goal
 

@@ -1,12 +1,9 @@
-use Rattle.std.proofs.Common.{◌≡◌, ◌∙◌, ℕ, false, refl, sym, ap, subst, Some, None, Ok, Err}
 use Rattle.grid_types.specs.declared.entry.FailWhy.TheVariants as why
-use Rattle.grid_types.specs.Calls.{Call, Reply}
-use Rattle.hub_core.specs.HubView.{HubView, past}
-use Rattle.hub_core.specs.Replies.{failing_reply, ending_reply, polled_reply}
+use Rattle.grid_types.specs.Calls.{Call}
+use Rattle.hub_core.specs.Replies.{ending_reply}
 use Rattle.hub_core.specs.declared.answers.Ending.TheVariants as ending
-use Rattle.grid_keeper.specs.Keeping.{cleared_reply, freed_reply, WentAlong}
-use Rattle.grid_keeper.proofs.AlongLemmas.{along_same, along_on, call_along, closed_along, roomy_along, room_along, room_past, served_along}
-use Rattle.grid_keeper.proofs.SettleLemmas.{fail_step, freed_step, no_step, none_held, clear_none, clear_fewer, ended_fewer, ended_freed, ended_stay, not_ended, not_ended_fewer, stays_over, stays_room}
+use Rattle.grid_keeper.proofs.AlongLemmas.{along_on, call_along, closed_along, room_along, room_past}
+use Rattle.grid_keeper.proofs.SettleLemmas.{ended_fewer, ended_freed, ended_stay, not_ended, not_ended_fewer, stays_over, stays_room}
 use Rattle.grid_keeper.proofs.settling.end_created.Goals as goal
 
 pub returns-then-is_err-clause-went : goal.returns-then-is_err-clause-went

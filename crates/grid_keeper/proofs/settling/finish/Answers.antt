@@ -1,11 +1,7 @@
-use Rattle.std.proofs.Common.{◌≡◌, ◌∙◌, ℕ, refl, sym, ap, subst, Some, None, Ok, Err}
 use Rattle.grid_types.specs.declared.entry.FailWhy.TheVariants as why
-use Rattle.grid_types.specs.Calls.{Call, Reply}
-use Rattle.hub_core.specs.HubView.{HubView, past}
-use Rattle.hub_core.specs.Replies.{failing_reply, ending_reply, polled_reply}
-use Rattle.grid_keeper.specs.Keeping.{cleared_reply, freed_reply, WentAlong}
-use Rattle.grid_keeper.proofs.AlongLemmas.{along_same, along_on, call_along, closed_along, roomy_along, served_along}
-use Rattle.grid_keeper.proofs.SettleLemmas.{fail_step, freed_step, no_step, stays_over}
+use Rattle.grid_types.specs.Calls.{Call}
+use Rattle.grid_keeper.specs.Keeping.{freed_reply}
+use Rattle.grid_keeper.proofs.AlongLemmas.{call_along, closed_along}
 use Rattle.grid_keeper.proofs.settling.finish.Goals as goal
 
 pub returns-then-not-ask_to_end-clause-went : goal.returns-then-not-ask_to_end-clause-went

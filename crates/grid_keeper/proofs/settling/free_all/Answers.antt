@@ -1,5 +1,4 @@
-use Rattle.std.proofs.Common.{◌≤◌, ℕ, arith}
-use Rattle.hub_core.specs.HubView.{past}
+use Rattle.std.proofs.Common.{arith}
 use Rattle.grid_keeper.proofs.AlongLemmas.{along_same, along_on, closed_along}
 use Rattle.grid_keeper.proofs.SettleLemmas.{freed_one, freed_none}
 use Rattle.grid_keeper.proofs.settling.free_all.Goals as goal

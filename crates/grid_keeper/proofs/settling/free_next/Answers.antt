@@ -1,13 +1,10 @@
-use Rattle.std.proofs.Common.{◌≡◌, ◌∙◌, ℕ, refl, sym, ap, subst, Some, None, Ok, Err}
+use Rattle.std.proofs.Common.{◌≡◌, sym, subst, Some, None}
 use Rattle.grid_types.specs.declared.entry.FailWhy.TheVariants as why
 use Rattle.std.specs.Ordering.{nat_cmp}
 use Rattle.std.specs.BTreeMap.{get}
-use Rattle.grid_types.specs.Calls.{Call, Reply}
-use Rattle.hub_core.specs.HubView.{HubView, past}
-use Rattle.hub_core.specs.Replies.{failing_reply, ending_reply, polled_reply}
-use Rattle.grid_keeper.specs.Keeping.{cleared_reply, freed_reply, WentAlong}
-use Rattle.grid_keeper.proofs.AlongLemmas.{along_same, along_on, call_along, closed_along, roomy_along, served_along}
-use Rattle.grid_keeper.proofs.SettleLemmas.{fail_step, freed_step, no_step, stays_over}
+use Rattle.hub_core.specs.HubView.{past}
+use Rattle.grid_keeper.proofs.AlongLemmas.{along_same}
+use Rattle.grid_keeper.proofs.SettleLemmas.{freed_step}
 use Rattle.grid_keeper.proofs.settling.free_next.Goals as goal
 
 pub returns-in_default-clause-went : goal.returns-in_default-clause-went

@@ -1,6 +1,6 @@
 use Rattle.grid_types.specs.Calls.{Call}
 use Rattle.hub_core.specs.Replies.{polled_reply}
-use Rattle.grid_keeper.proofs.AlongLemmas.{along_same, along_on, call_along, closed_along}
+use Rattle.grid_keeper.proofs.AlongLemmas.{along_on, call_along, closed_along}
 use Rattle.grid_keeper.proofs.SettleLemmas.{settled_fewer, settled_none, settled_stay}
 use Rattle.grid_keeper.proofs.settling.take_outcome.Goals as goal
 

@@ -1,7 +1,6 @@
-use Rattle.std.proofs.Common.{◌≡◌, ◌∷◌, ◌-◌, ◌∙◌, List, length, take, drop, sym, ap, subst}
+use Rattle.std.proofs.Common.{◌∷◌, ◌-◌, ◌∙◌, List, length, take, drop, sym, ap}
 use Rattle.std.proofs.lemmas.List.{take_rest}
 use Rattle.team_words.specs.declared.team_play.TeamPlay.{TeamPlay}
-use Rattle.grid_teams_run.specs.Teams.{AllMayStart}
 use Rattle.grid_teams_run.proofs.StartLemmas.{first_one, ok_map, started_more}
 use Rattle.grid_teams_run.proofs.teams.+start_behind.Goals as goal
 

@@ -1,4 +1,4 @@
-use Rattle.std.proofs.Common.{ℕ, List, [], ◌<◌, ◌≤◌, arith}
+use Rattle.std.proofs.Common.{[], ◌<◌, arith}
 use Rattle.http_frames.specs.declared.frames.TheConstants.{LIMITS}
 use Rattle.grid_teams.specs.declared.naming.TeamName.TheVariants as team
 use Rattle.grid_teams_top.proofs.TeamBlockLemmas.{answered_block, by_name, if_ok, name_of_all, without_head, without_name}

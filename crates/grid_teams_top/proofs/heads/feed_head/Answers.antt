@@ -1,4 +1,4 @@
-use Rattle.std.proofs.Common.{ℕ, List, ◌+◌, ◌++◌, ◌∙◌, drop, take, subst, arith, rules, length-drop}
+use Rattle.std.proofs.Common.{ℕ, List, ◌+◌, ◌++◌, drop, take, subst, arith, length-drop}
 use Rattle.http_frames.specs.Feeding.{Fed, Feeds}
 use Rattle.grid_teams_top.proofs.HeadLemmas.{further}
 use Rattle.grid_teams_top.proofs.heads.feed_head.Goals as goal

@@ -1,6 +1,5 @@
-use Rattle.std.proofs.Common.{ℕ, ◌<◌, ◌^◌, List, length, ap, refl, sym, subst, ◌∙◌, arith}
+use Rattle.std.proofs.Common.{◌<◌, ◌^◌, List, length, ap, sym, subst, ◌∙◌, arith}
 use Rattle.grid_types.specs.Config.{IsValid, default_config}
-use Rattle.loop_node.specs.LinkedNodes.{nodes_reached}
 use Rattle.loop_node.specs.Sessions.{Node}
 use Rattle.play_words.specs.declared.play.PlayNode.{PlayNode}
 use Rattle.grid_play.specs.Crew.{AllFit, Crew, first_crew}

@@ -1,4 +1,3 @@
-use Rattle.std.proofs.Common.{◌≤◌}
 use Rattle.grid_outside.specs.Told.{NoneFell}
 use Rattle.hub_server.proofs.handling.accept_links.Given as goal
 

@@ -1,4 +1,4 @@
-use Rattle.std.proofs.Common.{◌<◌, ℕ, length}
+use Rattle.std.proofs.Common.{◌<◌, length}
 use Rattle.std.specs.List.{AllZip}
 use Rattle.hub_workers.specs.SharedClock.{Asked}
 use Rattle.hub_serving.specs.Tables.{SitsOn}

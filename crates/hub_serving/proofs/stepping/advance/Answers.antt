@@ -1,7 +1,7 @@
-use Rattle.std.proofs.Common.{◌≡◌, ◌∙◌, Bool, ap, subst, sym}
+use Rattle.std.proofs.Common.{◌∙◌, ap, subst, sym}
 use Rattle.grid_outside.specs.Told.{LinkView}
 use Rattle.hub_cell.specs.Passes.{knows}
-use Rattle.hub_serving.specs.Seats.{Sits, seen_by}
+use Rattle.hub_serving.specs.Seats.{seen_by}
 use Rattle.hub_workers.specs.SharedClock.{SharedTells, not_asked}
 use Rattle.hub_serving.proofs.SeatLemmas.{IsNoAsk, begins, begun, ends, goes_on, replied, rests, took_piece}
 use Rattle.hub_serving.proofs.TurnLemmas.{over_turn, write_turn}

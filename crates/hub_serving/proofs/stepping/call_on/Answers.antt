@@ -1,4 +1,3 @@
-use Rattle.std.proofs.Common.{◌≡◌, subst, sym}
 use Rattle.hub_cell.specs.Passes.{knows}
 use Rattle.hub_workers.specs.ClockLaws.{asked_once, remembers_now, shared_ticks}
 use Rattle.hub_workers.specs.SharedClock.{SharedTells}

@@ -1,4 +1,4 @@
-use Rattle.std.proofs.Common.{List, subst, sym}
+use Rattle.std.proofs.Common.{subst, sym}
 use Rattle.hub_cell.specs.Passes.{knows}
 use Rattle.hub_workers.specs.Benches.{now_of}
 use Rattle.hub_workers.specs.SharedClock.{SharedTells, not_asked}

@@ -1,6 +1,6 @@
 use Rattle.std.proofs.Common.{arith, ℕ, List, take, subst, ◌∙◌}
-use Rattle.journal_keeper.specs.Keeps.{Adds, AddsFront}
-use Rattle.journal_keeper.proofs.HoldsLemmas.{taken_more, the_rest_too}
+use Rattle.journal_keeper.specs.Keeps.{Adds}
+use Rattle.journal_keeper.proofs.HoldsLemmas.{taken_more}
 use Rattle.journal_keeper.proofs.whole.keep_all.Goals as goal
 
 pub loop-preserved : goal.loop-preserved

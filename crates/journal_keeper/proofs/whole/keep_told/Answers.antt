@@ -1,6 +1,6 @@
-use Rattle.std.proofs.Common.{◌≡◌, ℕ, List, Option, Some, None, ap, ◌∙◌, refl}
+use Rattle.std.proofs.Common.{ap, ◌∙◌}
 use Rattle.std.specs.Prelude.{is_some}
-use Rattle.journal_keeper.proofs.HoldsLemmas.{tells_still, piece_goes_on}
+use Rattle.journal_keeper.proofs.HoldsLemmas.{tells_still}
 use Rattle.journal_keeper.proofs.whole.keep_told.Goals as goal
 
 pub returns-in-Ok-clause-tells : goal.returns-in-Ok-clause-tells

@@ -1,6 +1,6 @@
-use Rattle.std.proofs.Common.{◌∷◌, ◌-◌, ◌∙◌, List, ℕ, length, take, drop, sym, ap, arith}
+use Rattle.std.proofs.Common.{◌∷◌, ◌-◌, ◌∙◌, List, ℕ, length, take, drop, sym, ap}
 use Rattle.std.proofs.lemmas.List.{take_rest}
-use Rattle.team_words.proofs.TeamNodeLemmas.{first_three, not_first, not_grown, said_more, too_few}
+use Rattle.team_words.proofs.TeamNodeLemmas.{first_three, not_first, not_grown, said_more}
 use Rattle.team_words.proofs.nodes.+are_team_nodes.Goals as goal
 
 pub returns-then-is_team_node-clause-some : goal.returns-then-is_team_node-clause-some

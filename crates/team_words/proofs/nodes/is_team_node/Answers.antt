@@ -1,4 +1,4 @@
-use Rattle.std.proofs.Common.{◌≡◌, ℕ, List, true, sym, ap, subst, ◌∙◌}
+use Rattle.std.proofs.Common.{ℕ, List, true, sym, ap, subst, ◌∙◌}
 use Rattle.play_words.specs.declared.play.PlayNode.{PlayNode}
 use Rattle.play_words.specs.Words.{SaysNode}
 use Rattle.team_words.specs.Words.{is_team_name}

@@ -1,5 +1,4 @@
-use Rattle.std.proofs.Common.{◌≡◌, ℕ, List, not, true, refl, sym, ap, subst, ◌∙◌}
-use Rattle.play_words.specs.declared.play.PlayNode.{PlayNode}
+use Rattle.std.proofs.Common.{ℕ, List, not, refl, sym, ap, subst, ◌∙◌}
 use Rattle.play_words.specs.Words.{SaysNode}
 use Rattle.team_words.specs.Teams.{put_in}
 use Rattle.team_words.specs.Words.{is_team_name}

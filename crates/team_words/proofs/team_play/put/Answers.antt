@@ -1,5 +1,5 @@
-use Rattle.std.proofs.Common.{◌≡◌, ◌∷◌, ◌++◌, ◌<◌, [], ℕ, List, Some, length, subst, ap, ap₂, sym, ◌∙◌, slice_set}
-use Rattle.std.specs.Prelude.{Option, None}
+use Rattle.std.proofs.Common.{◌<◌, ℕ, List, Some, length, subst, ap, ap₂, sym, ◌∙◌, slice_set}
+use Rattle.std.specs.Prelude.{None}
 use Rattle.std.proofs.lemmas.Option.{slice_get-get_or}
 use Rattle.grid_teams.specs.Places.{names_by, place_of}
 use Rattle.team_words.specs.declared.team_play.TeamPlay.{TeamPlay}

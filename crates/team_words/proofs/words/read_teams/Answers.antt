@@ -1,7 +1,6 @@
-use Rattle.std.proofs.Common.{◌∷◌, ◌-◌, ◌∙◌, List, ℕ, length, take, drop, refl, sym, ap, subst}
+use Rattle.std.proofs.Common.{◌∷◌, ◌-◌, ◌∙◌, List, ℕ, length, take, drop, sym, ap}
 use Rattle.std.specs.Cmp.Lexicographic.{same_text}
 use Rattle.std.proofs.lemmas.List.{take_rest}
-use Rattle.team_words.specs.Words.{SaysCrews}
 use Rattle.team_words.proofs.TeamNodeLemmas.{behind_first, err_map, first_word, if_ok_map, not_false}
 use Rattle.team_words.proofs.words.read_teams.Goals as goal
 

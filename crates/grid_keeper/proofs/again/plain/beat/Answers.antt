@@ -1,12 +1,9 @@
-use Rattle.std.proofs.Common.{refl, ap, sym, ◌∙◌, subst, length, Some, None, ◌≡◌, ◌<◌}
-use Rattle.std.specs.Ordering.{nat_cmp}
-use Rattle.std.specs.BTreeMap.{get}
-use Rattle.grid_types.specs.Tokens.{ticket_of, reservation_of}
-use Rattle.grid_types.specs.Calls.{Call, Reply}
+use Rattle.std.proofs.Common.{refl, ap, length, None}
+use Rattle.grid_types.specs.Calls.{Call}
 use Rattle.hub_core.specs.HubView.{past}
-use Rattle.hub_core.specs.Replies.{registering_reply, beating_reply, draining_reply, removal_reply, touching_reply, swept_reply, enqueued_reply, polled_reply, dispatched_reply, binding_reply, failing_reply, ending_reply, expiring_reply}
+use Rattle.hub_core.specs.Replies.{beating_reply}
 use Rattle.grid_journal.specs.declared.rows.Row.TheVariants as row
-use Rattle.grid_keeper.specs.Holds.{place_of, open_after, HoldsAll}
+use Rattle.grid_keeper.specs.Holds.{HoldsAll}
 use Rattle.grid_keeper.proofs.HoldsLemmas.{served}
 use Rattle.grid_keeper.proofs.ThereLemmas.{all_there, beating-given}
 use Rattle.grid_keeper.proofs.AgainLemmas.{went, from_room, all_roomy, beating-some}

@@ -1,11 +1,8 @@
-use Rattle.std.proofs.Common.{◌≡◌, ◌∙◌, refl, ap, sym, length, None}
+use Rattle.std.proofs.Common.{◌∙◌, refl, ap, length, None}
 use Rattle.grid_types.specs.Calls.{Call}
-use Rattle.hub_core.specs.HubView.{past}
 use Rattle.hub_core.specs.Replies.{beating_reply}
 use Rattle.grid_journal.specs.declared.rows.Row.TheVariants as row
-use Rattle.grid_journal.specs.RowSpelled.{row_bytes, RowFits}
-use Rattle.grid_keeper.specs.Keeping.{cleared_reply, freed_reply}
-use Rattle.grid_keeper.proofs.KeepLemmas.{served, failed, ended, may_enqueue}
+use Rattle.grid_keeper.proofs.KeepLemmas.{served, failed}
 use Rattle.grid_keeper.proofs.kept_hub.KeptHub.beat.Goals as goal
 
 pub returns-in_err-finish-clause-kept : goal.returns-in_err-finish-clause-kept

@@ -1,10 +1,8 @@
-use Rattle.std.proofs.Common.{◌≡◌, ◌∙◌, refl, ap, sym, subst, length, inl, inr}
+use Rattle.std.proofs.Common.{◌∙◌, refl, ap, subst, length, inl, inr}
 use Rattle.grid_types.specs.Calls.{Call}
-use Rattle.hub_core.specs.HubView.{past}
 use Rattle.hub_core.specs.Replies.{binding_reply}
 use Rattle.grid_journal.specs.declared.rows.Row.TheVariants as row
 use Rattle.grid_journal.specs.RowSpelled.{row_bytes, RowFits}
-use Rattle.grid_keeper.specs.Keeping.{cleared_reply, freed_reply}
 use Rattle.grid_keeper.proofs.KeepLemmas.{served, failed, as_made}
 use Rattle.grid_keeper.proofs.kept_hub.KeptHub.bind.Goals as goal
 

@@ -1,10 +1,8 @@
-use Rattle.std.proofs.Common.{◌≡◌, ◌∙◌, refl, ap, sym, subst, length, List, ℕ}
+use Rattle.std.proofs.Common.{◌∙◌, refl, ap, length}
 use Rattle.grid_types.specs.Calls.{Call}
 use Rattle.hub_core.specs.HubView.{past}
 use Rattle.hub_core.specs.Replies.{enqueued_reply}
 use Rattle.grid_journal.specs.declared.rows.Row.TheVariants as row
-use Rattle.grid_journal.specs.RowSpelled.{row_bytes, RowFits}
-use Rattle.grid_keeper.specs.Keeping.{cleared_reply, freed_reply}
 use Rattle.grid_keeper.proofs.KeepLemmas.{served, failed, lacks, may_enqueue}
 use Rattle.grid_keeper.proofs.kept_hub.KeptHub.enqueue.Goals as goal
 

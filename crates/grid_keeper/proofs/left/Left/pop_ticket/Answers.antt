@@ -1,11 +1,9 @@
-use Rattle.std.proofs.Common.{◌≡◌, ◌<◌, ◌∙◌, ℕ, ap, nat_eq, None, refl, subst, sym}
+use Rattle.std.proofs.Common.{ℕ, nat_eq, None, refl, subst, sym}
 use Rattle.std.specs.Ordering.{nat_cmp}
 use Rattle.std.specs.BTreeMap.{Updates}
-use Rattle.grid_types.specs.declared.names.SlotId.{SlotId}
-use Rattle.grid_types.specs.Slots.{slot_eq}
-use Rattle.grid_keeper.specs.Holds.{place_of, IsTicket, IsReservation, IsClosing}
+use Rattle.grid_keeper.specs.Holds.{IsTicket}
 use Rattle.grid_keeper.proofs.KeptLemmas.{taken-out-of}
-use Rattle.grid_keeper.proofs.TableLemmas.{not_both, out_stays_of, gone_from, places_apart}
+use Rattle.grid_keeper.proofs.TableLemmas.{not_both, out_stays_of, gone_from}
 use Rattle.grid_keeper.proofs.left.Left.pop_ticket.Goals as goal
 
 pub returns-in-Some-clause-pops : goal.returns-in-Some-clause-pops

@@ -1,7 +1,7 @@
 use Rattle.grid_keeper.specs.Holds.{IsTicket}
 use Rattle.grid_keeper.proofs.KeptLemmas.{taken-out}
 use Rattle.std.proofs.Common.{nat_eq}
-use Rattle.grid_keeper.proofs.TableLemmas.{not_both, out_stays, places_apart}
+use Rattle.grid_keeper.proofs.TableLemmas.{not_both, out_stays}
 use Rattle.grid_keeper.proofs.left.Left.take_ticket.Goals as goal
 
 pub returns-clause-stays : goal.returns-clause-stays

@@ -1,8 +1,8 @@
 use Rattle.std.proofs.lemmas.Result.{err_from_is_err_and}
 use Rattle.grid_opening.specs.declared.settling.SlotWork.TheVariants as work
-use Rattle.grid_opening.specs.Settling.{Always, Clears, Closes, EachRequest, EachSlot, NoHeld, Refreshes, Settles, Stays, TakesGiven}
+use Rattle.grid_opening.specs.Settling.{Always, Stays}
 use Rattle.grid_opening.proofs.GoesLemmas.{went_both, went_off}
-use Rattle.grid_opening.proofs.SlotLemmas.{closes, refreshes, settles, stays_both}
+use Rattle.grid_opening.proofs.SlotLemmas.{stays_both}
 use Rattle.grid_opening.proofs.opening.Opening.at_node.Goals as goal
 
 pub returns-in_err-drain_spent : goal.returns-in_err-drain_spent

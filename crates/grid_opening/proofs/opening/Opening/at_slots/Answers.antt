@@ -1,6 +1,5 @@
 use Rattle.std.proofs.lemmas.Result.{err_from_is_err_and}
 use Rattle.std.proofs.Common.{◌+◌, arith}
-use Rattle.grid_types.specs.declared.limits.TheConstants.{MOST_SLOTS}
 use Rattle.std.specs.Prelude.{Ok}
 use Rattle.grid_types.specs.Slots.{slot_at}
 use Rattle.grid_opening.specs.Settling.{Always, Clears, IsSlot, OnNode}

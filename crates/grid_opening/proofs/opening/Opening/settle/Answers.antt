@@ -1,4 +1,3 @@
-use Rattle.std.proofs.Common.{subst}
 use Rattle.grid_opening.proofs.GoesLemmas.{not_later, reason_of, reasons, settled_so}
 use Rattle.grid_opening.proofs.opening.Opening.settle.Goals as goal
 

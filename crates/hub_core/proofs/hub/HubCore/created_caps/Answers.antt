@@ -1,5 +1,4 @@
-use Rattle.std.proofs.Common.{◌≡◌, List, subst}
-use Rattle.std.specs.Prelude.{Option}
+use Rattle.std.proofs.Common.{◌≡◌, subst}
 use Rattle.std.specs.Option.{option_copied}
 use Rattle.grid_types.specs.Requests.{Place, place}
 use Rattle.hub_core.specs.Lent.{created_caps}

@@ -1,4 +1,3 @@
-use Rattle.std.proofs.Common.{sym}
 use Rattle.hub_tellers.specs.Starts.{Stood}
 use Rattle.hub_tellers.proofs.CallLemmas.{tells_call}
 use Rattle.hub_tellers.proofs.BindLemmas.{kept_told}

@@ -1,5 +1,3 @@
-use Rattle.std.proofs.Common.{subst}
-use Rattle.hub_workers.specs.declared.tick_steps.TickStage.{TickStage}
 use Rattle.hub_workers.proofs.TickSeatLemmas.{told_at}
 use Rattle.hub_workers.proofs.tick_seats.TickSeat.result.Goals as goal
 

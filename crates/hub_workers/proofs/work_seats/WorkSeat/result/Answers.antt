@@ -1,5 +1,3 @@
-use Rattle.std.proofs.Common.{subst}
-use Rattle.hub_workers.specs.declared.work_steps.WorkStage.{WorkStage}
 use Rattle.hub_workers.proofs.WorkSeatLemmas.{told_at}
 use Rattle.hub_workers.proofs.work_seats.WorkSeat.result.Goals as goal
 
