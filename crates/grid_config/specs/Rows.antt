@@ -1,5 +1,5 @@
 -- The tables of keys, and what is found in them.
-use Rattle.std.specs.Prelude.{◌&&◌, ◌||◌, ℕ, Bool, false, List, [], ◌∷◌, Option, None, Some, codes, if◌then◌else◌}
+use Rattle.std.specs.Prelude.{◌&&◌, ◌||◌, ◌++◌, ℕ, Bool, false, List, [], ◌∷◌, Option, None, Some, codes, if◌then◌else◌}
 use Rattle.std.specs.Str.{bytes_eq}
 use Rattle.grid_config.specs.declared.rows.Form.TheVariants as form
 use Rattle.grid_config.specs.declared.rows.Kind.{Kind}

@@ -1,5 +1,5 @@
 -- What the words of the program say.
-use Rattle.std.specs.Prelude.{ℕ, ◌-◌, ◌^◌, List, [], ◌∷◌, Option, None, Some, codes, bytes_eq}
+use Rattle.std.specs.Prelude.{ℕ, ◌-◌, ◌^◌, List, [], ◌∷◌, Option, None, Some, codes, bytes_eq, if◌then◌else◌}
 use Rattle.grid_log.specs.declared.form.Form.{Form}
 use Rattle.grid_log.specs.declared.form.Form.TheVariants as form
 use Rattle.grid_log.specs.declared.words.AskedLog.{AskedLog}
