@@ -8,7 +8,7 @@ use Rattle.hub_cell.specs.declared.hub.SharedHub.{SharedHub}
 use Rattle.hub_serving.specs.declared.seats.Seat.{Seat}
 use Rattle.hub_workers.specs.SharedClock.{Asked}
 use Rattle.hub_workers.specs.ClockLaws.{remembers_on}
-use Rattle.hub_serving.specs.Tables.{IsSeated, SitsOn, StaysAt}
+use Rattle.hub_serving.specs.Tables.{IsSeated, SitsOn, StaysAt, StillAt}
 
 module _ {L N S C : Type 0} (hub : SharedHub) (line_view : L → LinkView) (state : N → S) (gives : S → List ℕ → Ask → Came → S → Type 0)
     (asks : N → Option (List ℕ × Ask) → Type 0) (tells : C → Tick → ℕ → C → Type 0) (clock_view : C → ClockView) where
@@ -31,6 +31,9 @@ module _ {L N S C : Type 0} (hub : SharedHub) (line_view : L → LinkView) (stat
 
   abbrev pub Stays : C → Option (Seat L N C) → Option (Seat L N C) → Type 0
   Stays clock = StaysAt hub line_view state gives asks tells clock_view clock
+
+  abbrev pub Still : Option (Seat L N C) → Option (Seat L N C) → Type 0
+  Still = StillAt hub line_view state gives asks tells clock_view
 
   pub at_on : (clock later : C) (o : Option (Seat L N C)) → Asked tells clock_view clock later → At clock o → At later o
   at_on clock later None asked x = tt

@@ -1,5 +1,5 @@
 -- Lists that go together place by place, of which one place goes on; and what is told of a connection that is over.
-use Rattle.std.proofs.Common.{◌≡◌, ℕ, zero, suc, ◌+◌, ◌<◌, List, [], ◌∷◌, ◌++◌, length, slice_set, All, arith}
+use Rattle.std.proofs.Common.{◌≡◌, ℕ, zero, suc, ◌+◌, ◌<◌, List, [], ◌∷◌, ◌++◌, length, slice_set, slice_index_or, All, arith, refl, ap}
 use Rattle.std.specs.Prelude.{Option, None, Some, Result, IfSome, true, get_or}
 use Rattle.std.specs.List.{AllZip}
 use Rattle.std.proofs.lemmas.List.Elements.{All-cons, All-nil}
@@ -75,3 +75,13 @@ module _ {L N S C : Type 0} (hub : SharedHub) (line_view : L → LinkView) (stat
         blames = served.1;
         spent = told_spent hub gives (SharedTells tells clock_view) result first later laws served.0;
       }
+
+-- another is put in the place of the last one
+pub put_last : {X : Type 0} (xs : List X) (old new : X) → slice_set (xs ++ old ∷ []) (length xs) new ≡ xs ++ new ∷ []
+put_last [] old new = refl
+put_last (x ∷ xs) old new = ap (λ zs. x ∷ zs) (put_last xs old new)
+
+-- the last one of them
+pub last_of : {X : Type 0} (xs : List X) (old other : X) → slice_index_or (xs ++ old ∷ []) (length xs) other ≡ old
+last_of [] old other = refl
+last_of (x ∷ xs) old other = last_of xs old other

@@ -1,5 +1,5 @@
 -- Connections that one thread serves beside each other, each with the pass, the line and the nodes that it began with.
-use Rattle.std.specs.Prelude.{◌≡◌, ℕ, List, None, Some, Option, Result}
+use Rattle.std.specs.Prelude.{◌≡◌, ℕ, List, None, Some, Option, Result, IfSome}
 use Rattle.grid_outside.specs.Told.{ClockView, LinkView, Tick}
 use Rattle.grid_outside.specs.declared.exchange.Ask.{Ask}
 use Rattle.grid_outside.specs.Exchanges.{Came}
@@ -47,6 +47,10 @@ module _ {L N S C : Type 0} (line_view : L → LinkView) (state : N → S) (cloc
   Says acts.GoesOn old new = new.ended ≡ None
   Says (acts.Rests rest) old new = (new.ended ≡ None) × (now_of new ≡ now_of old)
 
+  -- and what is said at a place of a table, of the connection that stands there
+  abbrev pub SaysAt : Option Act → Option (Seat L N C) → Option (Seat L N C) → Type 0
+  SaysAt told old new = IfSome told (λ act. IfSome old (λ before. IfSome new (Says act before)))
+
 module _ {L N S C : Type 0} (hub : SharedHub) (line_view : L → LinkView) (state : N → S) (gives : S → List ℕ → Ask → Came → S → Type 0)
     (asks : N → Option (List ℕ × Ask) → Type 0) (tells : C → Tick → ℕ → C → Type 0) (clock_view : C → ClockView) where
   -- it is served, or has ended so: then the whole of it is one conversation
@@ -82,6 +86,13 @@ module _ {L N S C : Type 0} (hub : SharedHub) (line_view : L → LinkView) (stat
   StaysAt clock (Some old) (Some new) = SitsOn clock old new
   StaysAt clock None (Some new) = ⊥
   StaysAt clock (Some old) None = ⊥
+
+  -- at a place of a table stands the same connection, of which nothing outside was done; or none, as before
+  abbrev pub StillAt : Option (Seat L N C) → Option (Seat L N C) → Type 0
+  StillAt None None = Unit {0}
+  StillAt (Some old) (Some new) = IsStill old new
+  StillAt None (Some new) = ⊥
+  StillAt (Some old) None = ⊥
 
   -- All that is told of a connection that is over: what is said of one that is served alone, over what it had outside when it
   -- began and has now.

@@ -5,7 +5,7 @@ use Rattle.hub_server.proofs.crowd.Crowd.leave.Goals as goal
 
 pub returns-in-Some : goal.returns-in-Some
 returns-in-Some g c = λ hub crowd.
-    let taken = c.in-Some.ensures hub c.args.self.now.clock crowd.seated in
+    let taken = c.in-Some.ensures.seated hub c.args.self.now.clock crowd.seated in
     c.leave_free.ensures hub (record {
       seated = taken.0;
       root = crowd.root;

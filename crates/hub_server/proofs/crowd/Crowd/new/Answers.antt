@@ -5,7 +5,7 @@ use Rattle.hub_server.proofs.crowd.Crowd.new.Goals as goal
 
 pub returns : goal.returns
 returns g c = λ hub root reader. record {
-  seated = c.in_ok-places.ensures hub c.args.clock;
+  seated = c.in_ok-places.ensures.seated hub c.args.clock;
   root = root;
   reader = reader;
   passes = subst (All (IsOf hub)) (sym c.in_ok-passes.ensures.items) (All-nil (IsOf hub));

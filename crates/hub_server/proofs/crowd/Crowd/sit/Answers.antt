@@ -7,7 +7,7 @@ returns g c =
     let seat = c.new-seat in
     let stayed = c.stay.ensures hub c.free_pass.new.self.clock seat.new.clock seat.ensures.asked crowd.seated in
     record {
-      seated = c.sit.ensures hub seat.new.clock stayed (seat.ensures.seated hub c.in-Some.ensures.pass);
+      seated = c.sit.ensures.seated hub seat.new.clock stayed (seat.ensures.seated hub c.in-Some.ensures.pass);
       root = crowd.root;
       reader = crowd.reader;
       passes = crowd.passes;
